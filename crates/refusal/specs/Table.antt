@@ -1,0 +1,69 @@
+-- Document 01, "Refusal numbers": the number and the value of each row, and the three numbers that a refusal returns.
+use Prim.Native.Nat.{ℕ}
+use Rattle.refusal.specs.declared.Refusal.{Refusal}
+use Rattle.refusal.specs.declared.Refusal.the-variants.{Short, Signature, Version, HeaderSize, Format, Compressed, FormatForVersion, RecordLength, PointOffset, Allowance, VlrExtent, PointExtent, EvlrExtent, EvlrStart, ReturnNumber, NumberOfReturns, Class, Channel, Overlap, Nir, Angle, NoRoom, ExtraBytes, VlrDataLength, Attributes, NoPair, Index}
+use Rattle.refusal.specs.declared.Row.{Row}
+
+-- the column "no."
+abbrev pub numberOf : Refusal → ℕ
+numberOf (Short v) = 1
+numberOf (Signature v) = 2
+numberOf (Version v) = 3
+numberOf (HeaderSize v) = 4
+numberOf (Format v) = 5
+numberOf (Compressed v) = 6
+numberOf (FormatForVersion v) = 7
+numberOf (RecordLength v) = 8
+numberOf (PointOffset v) = 9
+numberOf (Allowance v) = 10
+numberOf (VlrExtent v) = 11
+numberOf (PointExtent v) = 12
+numberOf (EvlrExtent v) = 13
+numberOf (EvlrStart v) = 14
+numberOf (ReturnNumber v) = 15
+numberOf (NumberOfReturns v) = 16
+numberOf (Class v) = 17
+numberOf (Channel v) = 18
+numberOf (Overlap v) = 19
+numberOf (Nir v) = 20
+numberOf (Angle v) = 21
+numberOf (NoRoom v) = 22
+numberOf (ExtraBytes v) = 23
+numberOf (VlrDataLength v) = 24
+numberOf Attributes = 25
+numberOf (NoPair v) = 26
+numberOf (Index v) = 27
+
+-- the column "value"
+abbrev pub valueOf : Refusal → ℕ
+valueOf (Short v) = v
+valueOf (Signature v) = v
+valueOf (Version v) = v
+valueOf (HeaderSize v) = v
+valueOf (Format v) = v
+valueOf (Compressed v) = v
+valueOf (FormatForVersion v) = v
+valueOf (RecordLength v) = v
+valueOf (PointOffset v) = v
+valueOf (Allowance v) = v
+valueOf (VlrExtent v) = v
+valueOf (PointExtent v) = v
+valueOf (EvlrExtent v) = v
+valueOf (EvlrStart v) = v
+valueOf (ReturnNumber v) = v
+valueOf (NumberOfReturns v) = v
+valueOf (Class v) = v
+valueOf (Channel v) = v
+valueOf (Overlap v) = v
+valueOf (Nir v) = v
+valueOf (Angle v) = v
+valueOf (NoRoom v) = v
+valueOf (ExtraBytes v) = v
+valueOf (VlrDataLength v) = v
+valueOf Attributes = 0
+valueOf (NoPair v) = v
+valueOf (Index v) = v
+
+-- a refusal at a record; the record number is 0 where document 01 names no record
+unfoldable pub rowOf : Refusal → ℕ → Row
+rowOf r n = record { number = numberOf r; value = valueOf r; «record» = n }

@@ -1,0 +1,130 @@
+// Document 01's refusals, 1 to 27: a case for each row of its table, named as there, with the row's value.
+ghost use mathlib.Core.Path.{_≡_};
+ghost use Rattle.refusal.specs.Table.{numberOf, valueOf, rowOf};
+
+pub enum Refusal {
+    // Bytes wanted in all, 0 if over 2^64 - 1.
+    Short(u64),
+    // The four bytes found, as a u32.
+    Signature(u32),
+    // Major times 256 plus minor.
+    Version(u16),
+    HeaderSize(u16),
+    Format(u8),
+    Compressed(u8),
+    FormatForVersion(u8),
+    // The field, or for a format its true length, which may pass 65,535.
+    RecordLength(u32),
+    PointOffset(u32),
+    Allowance(u64),
+    VlrExtent(u16),
+    PointExtent(u64),
+    EvlrExtent(u64),
+    EvlrStart(u64),
+    ReturnNumber(u8),
+    NumberOfReturns(u8),
+    Class(u8),
+    Channel(u8),
+    // The class that the overlap flag does not go with.
+    Overlap(u8),
+    Nir(u16),
+    // The scaled angle's 16 bits, unsigned.
+    Angle(u16),
+    // Bytes or entries wanted, 0 if over 2^64 - 1.
+    NoRoom(u64),
+    ExtraBytes(u16),
+    VlrDataLength(u64),
+    Attributes,
+    NoPair(u8),
+    Index(u64),
+}
+
+// A refusal as document 01 returns it: number, value and record number.
+pub struct Row {
+    pub number: u8,
+    pub value: u64,
+    pub record: u64,
+}
+
+impl Refusal {
+    // The row's number in document 01's table.
+    pub fn number(self) -> u8
+        ensures { λ r. ⌜ r ≡ numberOf self ⌝ }
+    {
+        match self {
+            Refusal::Short(_) => 1,
+            Refusal::Signature(_) => 2,
+            Refusal::Version(_) => 3,
+            Refusal::HeaderSize(_) => 4,
+            Refusal::Format(_) => 5,
+            Refusal::Compressed(_) => 6,
+            Refusal::FormatForVersion(_) => 7,
+            Refusal::RecordLength(_) => 8,
+            Refusal::PointOffset(_) => 9,
+            Refusal::Allowance(_) => 10,
+            Refusal::VlrExtent(_) => 11,
+            Refusal::PointExtent(_) => 12,
+            Refusal::EvlrExtent(_) => 13,
+            Refusal::EvlrStart(_) => 14,
+            Refusal::ReturnNumber(_) => 15,
+            Refusal::NumberOfReturns(_) => 16,
+            Refusal::Class(_) => 17,
+            Refusal::Channel(_) => 18,
+            Refusal::Overlap(_) => 19,
+            Refusal::Nir(_) => 20,
+            Refusal::Angle(_) => 21,
+            Refusal::NoRoom(_) => 22,
+            Refusal::ExtraBytes(_) => 23,
+            Refusal::VlrDataLength(_) => 24,
+            Refusal::Attributes => 25,
+            Refusal::NoPair(_) => 26,
+            Refusal::Index(_) => 27,
+        }
+    }
+
+    // The row's value in document 01's table.
+    pub fn value(self) -> u64
+        ensures { λ r. ⌜ r ≡ valueOf self ⌝ }
+    {
+        match self {
+            Refusal::Short(v) => v,
+            Refusal::Signature(v) => v as u64,
+            Refusal::Version(v) => v as u64,
+            Refusal::HeaderSize(v) => v as u64,
+            Refusal::Format(v) => v as u64,
+            Refusal::Compressed(v) => v as u64,
+            Refusal::FormatForVersion(v) => v as u64,
+            Refusal::RecordLength(v) => v as u64,
+            Refusal::PointOffset(v) => v as u64,
+            Refusal::Allowance(v) => v,
+            Refusal::VlrExtent(v) => v as u64,
+            Refusal::PointExtent(v) => v,
+            Refusal::EvlrExtent(v) => v,
+            Refusal::EvlrStart(v) => v,
+            Refusal::ReturnNumber(v) => v as u64,
+            Refusal::NumberOfReturns(v) => v as u64,
+            Refusal::Class(v) => v as u64,
+            Refusal::Channel(v) => v as u64,
+            Refusal::Overlap(v) => v as u64,
+            Refusal::Nir(v) => v as u64,
+            Refusal::Angle(v) => v as u64,
+            Refusal::NoRoom(v) => v,
+            Refusal::ExtraBytes(v) => v as u64,
+            Refusal::VlrDataLength(v) => v,
+            Refusal::Attributes => 0,
+            Refusal::NoPair(v) => v as u64,
+            Refusal::Index(v) => v,
+        }
+    }
+
+    // Number, value and record number together.
+    pub fn row(self, record: u64) -> Row
+        ensures { λ r. ⌜ r ≡ rowOf self «record» ⌝ }
+    {
+        Row {
+            number: self.number(),
+            value: self.value(),
+            record,
+        }
+    }
+}
