@@ -7,7 +7,6 @@ ghost use mir.Syntax.{w8, w16, w32};
 ghost use mir.Val.{toZ};
 ghost use Rattle.le.specs.Le.{num, bytes};
 ghost use Rattle.le.specs.Real.{f32Of, f64Of};
-
 use float::F32;
 use float::F64;
 

@@ -1,0 +1,23 @@
+-- Cites the laws of a NaN's pattern and of a number's.
+use mathlib.Core.Path.{sym, subst, _∙_}
+use mathlib.Core.Bool.{Bool, not}
+use lib.Dec.{T}
+use lib.Ieee.{binary32}
+use Rattle.le.specs.Real.{f32BitsOf}
+use Rattle.le.proofs.Nans.{self, nan-written, number-written}
+use Rattle.le.proofs.float.f32_bits.Statement.{statement}
+use Rattle.le.proofs.float.f32_bits.Tie as tie
+
+float-to-bits-result : tie.Need-float-to-bits-result
+float-to-bits-result c = subst (λ (b : Bool). T (not b)) (sym (sym (self (c .before .args .x .value)) ∙ c .if1 .left)) tt
+
+returns : tie.Need-returns
+unfolding f32BitsOf
+returns c = nan-written binary32 (c .before .args .x .value) (c .before .args .x .nan) (c .if1 .taken)
+
+returns-2 : tie.Need-returns-2
+unfolding f32BitsOf
+returns-2 c = number-written binary32 (c .before .args .x .value) (c .before .args .x .nan) (c .if1 .left)
+
+pub f32-bits-spec : {M : Type 1} → statement M
+f32-bits-spec = tie.close (tie.spec float-to-bits-result returns returns-2)
