@@ -2,10 +2,10 @@
 use Prim.Native.Nat.{ℕ, zero, suc, _+_, _*_, _/_, _%_, _^_, _<_, _≤_}
 use mathlib.Core.Path.{_≡_, refl, ap, sym, _∙_}
 use mathlib.Core.List.{List, [], _∷_, _++_}
-use native.Mathlib.Nat.{zero-add, suc-add, pow-succ', mul-assoc, add-zero}
+use native.Mathlib.Nat.{zero-add, suc-add, pow-succ', mul-assoc, add-zero, div-div-eq-div-mul}
 use native.Mathlib.Numerals.{one-add}
 use native.Mathlib.Omega.{arith}
-use lib.ListN.{getD, drop, length, drop-of-length-le}
+use lib.ListN.{getD, take, drop, length, drop-of-length-le}
 use lib.Seq.{drop-drop, getD-drop}
 use Rattle.le.specs.Le.{le, num, bytes, bytesFrom, Bytes}
 
@@ -47,3 +47,35 @@ le-none (suc w) = omega (arith, le-none w)
 pub num-past : (w : ℕ) (s : List ℕ) (at : ℕ) → length s ≤ at → num w at s ≡ 0
 unfolding num
 num-past w s at h = rw (drop-of-length-le s h) (le-none w)
+
+-- the bytes of a number are its lowest byte and the bytes of the rest
+shift : (k w x : ℕ) → bytesFrom (suc k) w x ≡ bytesFrom k w (x / 256)
+shift k zero x = refl
+shift k (suc w) x = rw (shift (suc k) w x, pow-succ', ← div-div-eq-div-mul x 256 (256 ^ k))
+
+pub bytes-suc : (w x : ℕ) → bytes (suc w) x ≡ x % 256 ∷ bytes w (x / 256)
+bytes-suc zero x = refl
+bytes-suc (suc w) x = rw (shift 1 w x)
+
+-- a number of w bytes has w bytes
+pub length-bytes : (w x : ℕ) → length (bytes w x) ≡ w
+length-bytes zero x = refl
+length-bytes (suc w) x = ap length (bytes-suc w x) ∙ ap suc (length-bytes w (x / 256))
+
+-- reading what was written gives the number back
+pub le-bytes : (w x : ℕ) (s : List ℕ) → x < 256 ^ w → le w (bytes w x ++ s) ≡ x
+unfolding le
+le-bytes zero x s h = omega arith
+le-bytes (suc w) x s h =
+    let less : x / 256 < 256 ^ w = omega (arith, pow-succ' 256 w) in
+    ap (λ (l : List ℕ). le (suc w) (l ++ s)) (bytes-suc w x) ∙ rw (le-bytes w (x / 256) s less) (omega arith)
+
+-- writing what was read gives the bytes back
+pub bytes-le : (w : ℕ) (s : List ℕ) → Bytes s → w ≤ length s → bytes w (le w s) ≡ take w s
+unfolding le
+bytes-le zero s b h = refl
+bytes-le (suc w) [] b h = absurd (omega arith)
+bytes-le (suc w) (x ∷ s) b h =
+    let low : (x + 256 * le w s) % 256 ≡ x = omega (arith, b 0) in
+    let high : (x + 256 * le w s) / 256 ≡ le w s = omega (arith, b 0) in
+    rw (bytes-suc w (x + 256 * le w s), low, high) (ap (λ (t : List ℕ). x ∷ t) (bytes-le w s (λ k. b (suc k)) (omega arith)))

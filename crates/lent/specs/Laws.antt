@@ -1,0 +1,42 @@
+-- Laws of writes to the front of a lent slice and of a lent tail, cited wherever one record is written after another.
+use mathlib.Core.Path.{_≡_, refl, ap, sym, _∙_}
+use mathlib.Core.List.{List, [], _∷_, _++_, append-assoc, append-nil}
+use Prim.Native.Nat.{ℕ, suc, _+_, _-_, _≤_, _<_}
+use native.Mathlib.Omega.{arith}
+use native.Mathlib.Nat.{add-zero, zero-add, add-suc, suc-add}
+use borrow.Author.Tests.{le-leb, lt-leb}
+use lib.ListN.{length, set, take, drop, length-append, length-drop, drop-of-length-le}
+use lib.Seq.{sets, sets-eq, length-sets, take-all, drop-drop}
+use Rattle.refusal.specs.declared.Refusal.the-variants.{NoRoom}
+use Rattle.lent.specs.declared.Wrote.{Wrote}
+use Rattle.lent.specs.declared.Wrote.the-variants.{Bytes, Refused}
+use Rattle.lent.specs.Front.{frontOf}
+
+-- a run of stores, then another
+pub sets-append : (d bs rest : List ℕ) (at : ℕ) → sets d at (bs ++ rest) ≡ sets (sets d at bs) (at + length bs) rest
+sets-append d [] rest at = rw add-zero
+sets-append d (b ∷ bs) rest at = rw (add-suc, ← suc-add) (sets-append (set d at b) bs rest (suc at))
+
+-- where there is room, and where there is none
+pub front : (bs d : List ℕ) → length bs ≤ length d → frontOf bs d ≡ (Bytes (length bs), bs ++ drop (length bs) d)
+front bs d h = simp (le-leb _ _ h)
+
+pub no-front : (bs d : List ℕ) → length d < length bs → frontOf bs d ≡ (Refused (NoRoom (length bs)), d)
+no-front bs d h = simp (lt-leb _ _ h)
+
+-- the whole, where its tail from `at` on was lent to a write of `bs` and is back
+pub tail : (d bs ys : List ℕ) (at : ℕ) (r : Wrote) → at + length bs ≤ length d → (r, ys) ≡ frontOf bs (take (length d - at) (drop at d)) → take at d ++ (ys ++ drop (length d - at) (drop at d)) ≡ sets d at bs
+tail d bs ys at r h e =
+    let lt : length (drop at d) ≤ length d - at = simp length-drop (omega arith) in
+    let part : take (length d - at) (drop at d) ≡ drop at d = take-all _ _ lt in
+    let room : length bs ≤ length (drop at d) = simp length-drop (omega arith) in
+    let y : ys ≡ bs ++ drop (length bs) (drop at d) = ap (λ (p : Wrote × List ℕ). p .1) (e ∙ ap (frontOf bs) part ∙ front bs _ room) in
+    rw (sets-eq bs d at h, y, drop-of-length-le (drop at d) lt, append-nil, drop-drop, append-assoc)
+
+-- a turn of a loop that writes one record after another, each into the rest: `w` is what the whole is to be, `rest` what is still to be written
+pub turn : (d bs rest ys : List ℕ) (at : ℕ) (r : Wrote) {w : List ℕ} → at + length bs ≤ length d → (r, ys) ≡ frontOf bs (take (length d - at) (drop at d)) → sets d at (bs ++ rest) ≡ w → (length (take at d ++ (ys ++ drop (length d - at) (drop at d))) ≡ length d) × (sets (take at d ++ (ys ++ drop (length d - at) (drop at d))) (at + length bs) rest ≡ w)
+turn d bs rest ys at r h e w = rw (tail d bs ys at r h e) (length-sets d at bs, sym (sets-append d bs rest at) ∙ w)
+
+-- what is written from the start on
+pub whole : (d bs : List ℕ) (n : ℕ) → length bs ≡ n → n ≤ length d → sets d 0 bs ≡ bs ++ drop n d
+whole d bs n e h = rw (← e) (sets-eq bs d 0 (omega arith) ∙ rw zero-add)
