@@ -1,0 +1,54 @@
+-- The fields of a point record in their order, and their sizes: LAS 1.4 R15, point data record formats 0 to 10; document 01, "Order".
+use Prim.Native.Nat.{ℕ, _+_}
+use mathlib.Core.Bool.{Bool, true, false, cond}
+use mathlib.Core.List.{List, [], _∷_, _++_}
+use lib.Dec.{ltb}
+use Rattle.refusal.specs.declared.Refusal.the-variants.{RecordLength}
+use Rattle.format.specs.declared.Format.{Format}
+use Rattle.format.specs.declared.Field.{Field}
+use Rattle.format.specs.declared.Field.the-variants.{X, Y, Z, Intensity, Flags, UserData, ScanAngle, PointSourceId, GpsTime, Color, Nir, Waveform, ExtraBytes}
+use Rattle.format.specs.declared.FormatLen.{FormatLen}
+use Rattle.format.specs.declared.FormatLen.the-variants.{Is, Refused}
+
+-- a field that a format has or lacks
+abbrev pub only : Bool → Field → List Field
+only true x = x ∷ []
+only false x = []
+
+-- "X, Y, Z, intensity, flags, angle and user data (old: angle first; extended: user data first), source id, then what the format has of time, colour, NIR, waveform, then extra bytes"
+unfoldable pub fieldsOf : Format → List Field
+fieldsOf f =
+    X ∷ Y ∷ Z ∷ Intensity ∷ Flags ∷
+    (cond (f .«is_extended») (UserData ∷ ScanAngle ∷ []) (ScanAngle ∷ UserData ∷ [])
+    ++ (PointSourceId ∷
+    (only (f .«has_gps_time») GpsTime
+    ++ (only (f .«has_color») Color ++ (only (f .«has_nir») Nir ++ (only (f .«has_waveform») Waveform ++ (ExtraBytes ∷ [])))))))
+
+-- how many bytes each takes; flags and angle have one more in extended formats
+abbrev pub sizeOf : Format → Field → ℕ
+sizeOf f X = 4
+sizeOf f Y = 4
+sizeOf f Z = 4
+sizeOf f Intensity = 2
+sizeOf f Flags = cond (f .«is_extended») 3 2
+sizeOf f UserData = 1
+sizeOf f ScanAngle = cond (f .«is_extended») 2 1
+sizeOf f PointSourceId = 2
+sizeOf f GpsTime = 8
+sizeOf f Color = 6
+sizeOf f Nir = 2
+sizeOf f Waveform = 29
+sizeOf f ExtraBytes = f .«extra_bytes»
+
+-- the bytes of some fields together
+unfoldable pub sizes : Format → List Field → ℕ
+sizes f [] = 0
+sizes f (x ∷ xs) = sizeOf f x + sizes f xs
+
+-- the bytes of a whole record
+unfoldable pub recordBytes : Format → ℕ
+recordBytes f = sizes f (fieldsOf f)
+
+-- the length as a u16, or refusal 8 with the true length
+unfoldable pub lenOf : Format → FormatLen
+lenOf f = cond (ltb 65535 (recordBytes f)) (Refused (RecordLength (recordBytes f))) (Is (recordBytes f))

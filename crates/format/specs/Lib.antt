@@ -1,0 +1,5 @@
+pub mod Format
+pub mod Fields
+pub mod Codes
+pub mod Laws
+pub mod Theorems

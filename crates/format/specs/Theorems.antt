@@ -1,0 +1,19 @@
+-- What the definitions add up to for the eleven formats of the standard.
+use Prim.Native.Nat.{ℕ}
+use mathlib.Core.Path.{_≡_, refl}
+use mathlib.Core.Bool.{false}
+use mathlib.Core.List.{List, [], _∷_, map}
+use Rattle.format.specs.declared.FormatCode.{FormatCode}
+use Rattle.format.specs.declared.FormatCode.the-variants.{Is}
+use Rattle.format.specs.Fields.{fieldsOf, sizes, recordBytes}
+use Rattle.format.specs.Codes.{isIn, coded, firstWith, codeBy, codeOf, codes}
+
+-- "Point record bytes, formats 0 to 10: 20, 28, 26, 34, 57, 63, 30, 36, 38, 59, 67", from the field table
+pub record-sizes : map (λ (n : ℕ). recordBytes (coded n false)) codes ≡ 20 ∷ 28 ∷ 26 ∷ 34 ∷ 57 ∷ 63 ∷ 30 ∷ 36 ∷ 38 ∷ 59 ∷ 67 ∷ []
+unfolding isIn coded fieldsOf sizes recordBytes
+record-sizes = refl
+
+-- each format's code is its own: no two have the same attributes
+pub codes-back : map (λ (n : ℕ). codeOf (coded n false)) codes ≡ map Is codes
+unfolding isIn coded firstWith codeBy codeOf
+codes-back = refl
