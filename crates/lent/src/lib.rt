@@ -29,11 +29,11 @@ pub fn put2(dst: &mut [u8], head: &[u8], tail: &[u8]) -> Wrote
     ensures { λ r. ⌜ (r, now (dst .exit)) ≡ frontOf (now (head .entry) ++ now (tail .entry)) (now (dst .entry)) ⌝ }
 {
     let h = head.len();
-    let n = h + tail.len();
-    if dst.len() < n {
-        return Wrote::Refused(Refusal::NoRoom(n as u64));
+    let wanted = h + tail.len();
+    if dst.len() < wanted {
+        return Wrote::Refused(Refusal::NoRoom(wanted as u64));
     }
     put(dst, head);
     put(&mut dst[h..], tail);
-    Wrote::Bytes(n)
+    Wrote::Bytes(wanted)
 }
