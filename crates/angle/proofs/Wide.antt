@@ -1,17 +1,13 @@
 -- Signed arithmetic in 32 bits on a number of fewer bits: `k * (z as i32)`, and a quotient taken back to 16 bits. Assumes nothing.
-use Prim.Native.Nat.{ℕ, suc, _+_, _-_, _*_, _/_, _<_, _≤_, _^_}
-use mathlib.Core.Path.{_≡_, refl, sym, ap, _∙_}
+use Prim.Native.Nat.{ℕ, _+_, _*_, _/_, _<_, _≤_, _^_}
+use mathlib.Core.Path.{_≡_}
 use native.Mathlib.Nat.{mul-le-mul-left}
 use native.Mathlib.Omega.{arith}
-use mathlib.Core.Bool.{Bool, true, false}
-use borrow.Author.Tests.{eqb-true, eqb-false, eq-eqb, ne-eqb}
-use lib.Dec.{eqb}
-use lib.IntN.{ℤ, pos, negsuc, natAbs, _*ℤ_}
-use lib.Signed.{mag, natAbs-le, quotZ}
+use lib.IntN.{ℤ, pos, natAbs, _*ℤ_}
+use lib.Signed.{natAbs-le, quotZ}
 use mir.Syntax.{Width, w16, w32}
-use mir.Val.{SFits, ofZ, toZ, bits, hbits}
-use mir.ValLaws.{toZ-ofZ, pow-bits, half-full}
-use Rattle.angle.specs.Angle.{eqZ}
+use mir.Val.{SFits, ofZ, toZ, hbits}
+use mir.ValLaws.{toZ-ofZ}
 use Rattle.angle.specs.Sign.{sided, own-size, times, over, sided-fits}
 
 -- `k * (z as i32)`, as the machine works it out for a z of the width v
@@ -50,25 +46,3 @@ quotient x z a b e p most small =
       cast = rw (e, toZ-ofZ w32 (sided z a), over, toZ-ofZ w32) narrow;
       is = rw (e, toZ-ofZ w32 (sided z a), over, toZ-ofZ w32, toZ-ofZ w16);
     }
-
--- what stands in a variant of an enum comes with its bound, and not with `SFits`
-pub kept : (w : Width) (z : ℤ) → mag z < 2 ^ hbits w → toZ w (ofZ w z) ≡ z
-kept w z h = toZ-ofZ w z (record { sfits = h })
-
--- two numbers that a width holds are the same exactly when their bits are
-apart : (w : Width) {a b : ℕ} → a < 2 ^ hbits w → b < 2 ^ hbits w → a ≡ 2 ^ bits w - suc b → ⊥
-apart w f g e = omega (arith, pow-bits w)
-
-mirrored : (m : ℕ) {a b : ℕ} → a < m → b < m → m - suc a ≡ m - suc b → a ≡ b
-mirrored m f g e = omega arith
-
-pub same-bits : (w : Width) (a b : ℤ) → mag a < 2 ^ hbits w → mag b < 2 ^ hbits w → eqb (ofZ w a) (ofZ w b) ≡ eqZ a b
-unfolding eqZ
-same-bits w (pos a) (pos b) f g = refl
-same-bits w (pos a) (negsuc b) f g = ne-eqb _ _ (apart w f g)
-same-bits w (negsuc a) (pos b) f g = ne-eqb _ _ (λ e. apart w g f (sym e))
-same-bits w (negsuc a) (negsuc b) f g = go (eqb a b) refl
-  where
-    go : (t : Bool) → eqb a b ≡ t → eqb (2 ^ bits w - suc a) (2 ^ bits w - suc b) ≡ t
-    go true e = eq-eqb _ _ (ap (λ (k : ℕ). 2 ^ bits w - suc k) (eqb-true a b e))
-    go false e = ne-eqb _ _ (λ q. eqb-false a b e (mirrored (2 ^ bits w) (half-full w f) (half-full w g) q))

@@ -1,11 +1,10 @@
 -- A whole number by its side of zero and its size, so that what is shown of sizes holds on both sides. Assumes nothing.
-use Prim.Native.Nat.{ℕ, zero, suc, _+_, _*_, _/_, _<_, _^_}
-use mathlib.Core.Path.{_≡_, refl, sym, subst}
-use native.Mathlib.Nat.{mul-zero, zero-div}
+use Prim.Native.Nat.{ℕ, zero, suc, _+_, _*_, _/_, _<_, _^_, zero-le}
+use mathlib.Core.Path.{_≡_, refl, sym}
+use native.Mathlib.Nat.{zero-div}
 use native.Mathlib.Omega.{arith}
-use borrow.Author.Tests.{ltb-true}
-use mathlib.Core.Bool.{true, false}
-use lib.Dec.{T}
+use borrow.Author.Tests.{le-ltb}
+use mathlib.Core.Bool.{cond}
 use lib.IntN.{ℤ, pos, negsuc, negℤ, natAbs, _+ℤ_, _*ℤ_, negℤ-+ℤ}
 use lib.Signed.{mag, ltZ, quotZ}
 use mir.Syntax.{Width}
@@ -17,13 +16,9 @@ abbrev pub sided : ℤ → ℕ → ℤ
 sided (pos a) n = pos n
 sided (negsuc a) n = negℤ (pos n)
 
-pub below-zero : (z : ℤ) (n : ℕ) → ltZ z (pos 0) ≡ true → negℤ (pos n) ≡ sided z n
-below-zero (pos a) n e = let l : a < 0 = ltb-true a 0 e in absurd (omega arith)
-below-zero (negsuc a) n e = refl
-
-pub not-below : (z : ℤ) (n : ℕ) → ltZ z (pos 0) ≡ false → pos n ≡ sided z n
-not-below (pos a) n e = refl
-not-below (negsuc a) n e = absurd (subst T e tt)
+pub by-test : (z : ℤ) (n : ℕ) → sided z n ≡ cond (ltZ z (pos 0)) (negℤ (pos n)) (pos n)
+by-test (pos a) n = rw (le-ltb a 0 zero-le)
+by-test (negsuc a) n = refl
 
 pub own-size : (z : ℤ) → sided z (natAbs z) ≡ z
 own-size (pos a) = refl

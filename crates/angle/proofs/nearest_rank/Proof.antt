@@ -9,7 +9,7 @@ use mir.Syntax.{w16, w32}
 use mir.Val.{SFits, toZ, ofZ}
 use mir.ValLaws.{toZ-ofZ}
 use Rattle.angle.specs.Angle.{nearest, nearestRank}
-use Rattle.angle.specs.Sign.{sided, below-zero, not-below, own-size, times, plus, sided-fits, rank-size}
+use Rattle.angle.specs.Sign.{sided, by-test, own-size, times, plus, sided-fits, rank-size}
 use Rattle.angle.proofs.Wide.{wide, Product, product, Quotient, quotient}
 use Rattle.angle.proofs.nearest_rank.Statement.{statement}
 use Rattle.angle.proofs.nearest_rank.Tie as tie
@@ -27,8 +27,8 @@ module _ (c : tie.Joined1) where
   half : toZ w32 (c .if1 .half) ≡ sided n 500
   half =
       let h = c .before .fits .n in
-      ⊎-elim (λ w. ap (toZ w32) (w .1) ∙ below-zero n 500 (rw toZ-ofZ at (w .0 .taken)))
-      (λ w. ap (toZ w32) (w .1) ∙ not-below n 500 (rw toZ-ofZ at (w .0 .left))) (c .if1 .came)
+      ⊎-elim (λ w. ap (toZ w32) (w .1) ∙ sym (by-test n 500 ∙ rw (rw toZ-ofZ at (w .0 .taken))))
+      (λ w. ap (toZ w32) (w .1) ∙ sym (by-test n 500 ∙ rw (rw toZ-ofZ at (w .0 .left)))) (c .if1 .came)
 
   abbrev sum : ℤ
   sum = toZ w32 (ofZ w32 (wide w16 6 n)) +ℤ toZ w32 (c .if1 .half)

@@ -1,10 +1,9 @@
 -- Both products fit in 32 bits, where the same bits are the same number.
-use mathlib.Core.Path.{ap, _∙_}
+use mathlib.Core.Path.{_∙_}
 use native.Mathlib.Omega.{arith}
-use lib.IntN.{ℤ, pos, _*ℤ_}
 use mir.Syntax.{w8, w16, w32}
-use Rattle.angle.specs.Angle.{eqZ}
-use Rattle.angle.proofs.Wide.{wide, Product, product, same-bits}
+use Rattle.angle.proofs.Bits.{same-bits}
+use Rattle.angle.proofs.Wide.{wide, Product, product}
 use Rattle.angle.proofs.same.Statement.{statement}
 use Rattle.angle.proofs.same.Tie as tie
 

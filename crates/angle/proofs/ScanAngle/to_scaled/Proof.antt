@@ -1,6 +1,6 @@
 -- The product is 500|r| on r's side of zero.
 use borrow.Author.Needs.{needs}
-use Prim.Native.Nat.{_*_, _/_, _≤_}
+use Prim.Native.Nat.{_*_, _≤_}
 use mathlib.Core.Path.{sym, ap, _∙_}
 use native.Mathlib.Omega.{arith}
 use lib.IntN.{ℤ, natAbs}
@@ -8,7 +8,8 @@ use lib.Signed.{natAbs-le}
 use mir.Syntax.{w8, w16}
 use Rattle.angle.specs.Angle.{toScaled}
 use Rattle.angle.specs.Sign.{times, scaled-size}
-use Rattle.angle.proofs.Wide.{wide, Product, product, Quotient, quotient, kept}
+use Rattle.angle.proofs.Bits.{kept}
+use Rattle.angle.proofs.Wide.{wide, Product, product, Quotient, quotient}
 use Rattle.angle.proofs.ScanAngle.to_scaled.Statement.{statement}
 use Rattle.angle.proofs.ScanAngle.to_scaled.Tie as tie
 
