@@ -1,6 +1,6 @@
 -- Two's complement at every width: a number is read back from its bits, and numbers are the same exactly when their bits are. Assumes nothing.
 use Prim.Native.Nat.{ℕ, suc, _-_, _<_, _^_}
-use mathlib.Core.Path.{_≡_, refl, sym, ap}
+use mathlib.Core.Path.{_≡_, refl, sym, ap, _∙_}
 use mathlib.Core.Bool.{Bool, true, false}
 use native.Mathlib.Omega.{arith}
 use borrow.Author.Tests.{eqb-true, eqb-false, eq-eqb, ne-eqb}
@@ -8,17 +8,25 @@ use lib.Dec.{eqb}
 use lib.IntN.{ℤ, pos, negsuc, negℤ, _-ℤ_, +ℤ-idl}
 use lib.Signed.{mag}
 use mir.Syntax.{Width}
-use mir.Val.{ofZ, toZ, bits, hbits}
+use mir.Val.{SFits, ofZ, toZ, bits, hbits}
 use mir.ValLaws.{toZ-ofZ, toZ-pos, pow-bits, half-full}
 use Rattle.angle.specs.Angle.{eqZ}
+use Rattle.angle.specs.Sign.{sided-fits}
 
 -- what stands in a variant of an enum comes with its bound, and not with `SFits`
 pub kept : (w : Width) (z : ℤ) → mag z < 2 ^ hbits w → toZ w (ofZ w z) ≡ z
 kept w z h = toZ-ofZ w z (record { sfits = h })
 
--- `-n`, as the machine works it out
-pub minus : (w : Width) (n : ℕ) → n < 2 ^ hbits w → pos 0 -ℤ toZ w n ≡ negℤ (pos n)
-minus w n h = rw (toZ-pos w n h) (+ℤ-idl (negℤ (pos n)))
+-- `-n`, as the machine works it out for an n that is not negative
+module _ (w : Width) (n : ℕ) (h : n < 2 ^ hbits w) where
+  is-minus : pos 0 -ℤ toZ w n ≡ negℤ (pos n)
+  is-minus = rw (toZ-pos w n h) (+ℤ-idl (negℤ (pos n)))
+
+  pub minus-fits : SFits w (pos 0 -ℤ toZ w n)
+  minus-fits = rw is-minus (sided-fits w (negsuc 0) n h)
+
+  pub minus : toZ w (ofZ w (pos 0 -ℤ toZ w n)) ≡ negℤ (pos n)
+  minus = toZ-ofZ w (pos 0 -ℤ toZ w n) minus-fits ∙ is-minus
 
 apart : (w : Width) {a b : ℕ} → a < 2 ^ hbits w → b < 2 ^ hbits w → a ≡ 2 ^ bits w - suc b → ⊥
 apart w f g e = omega (arith, pow-bits w)

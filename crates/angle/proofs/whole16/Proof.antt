@@ -4,14 +4,11 @@ use borrow.Author.Tests.{lt-leb, le-leb}
 use Prim.Native.Nat.{ℕ, _<_, _^_}
 use mathlib.Core.Path.{_≡_, sym, ap, subst, _∙_}
 use lib.Dec.{T}
-use lib.IntN.{pos, negsuc, negℤ}
 use lib.Ieee.{Float, binary32, fits, toSigned}
 use lib.Ieee.Compare.{differs-from-itself}
 use mir.Syntax.{w16}
-use mir.Val.{SFits}
-use mir.ValLaws.{toZ-pos, toZ-ofZ}
-use Rattle.angle.specs.Sign.{sided-fits}
-use Rattle.angle.proofs.Bits.{minus}
+use mir.ValLaws.{toZ-pos}
+use Rattle.angle.proofs.Bits.{minus-fits, minus}
 use Rattle.angle.proofs.Held.{signed, end}
 use Rattle.angle.proofs.Whole.{negative, part, no-nan, part-fits, is-part, is-zero, is-end}
 use Rattle.angle.proofs.whole16.Statement.{statement}
@@ -41,12 +38,8 @@ module _ (c : tie.Else3) where
   is : toSigned 15 (x (c .before .before)) ≡ signed (negative (x (c .before .before))) t
   is = is-part (x (c .before .before)) (is-f32 (c .before .before)) (c .if3 .left)
 
-  minus-fits : SFits w16 (negℤ (pos t))
-  minus-fits = sided-fits w16 (negsuc 0) t small
-
 returns-6 : tie.Need-returns-6
-returns-6 c =
-    rw (minus w16 (t (c .before)) (small (c .before)), toZ-ofZ w16 _ (minus-fits (c .before))) (sym (is (c .before) ∙ rw (le-leb _ _ (c .if5 .left))))
+returns-6 c = minus w16 (t (c .before)) (small (c .before)) ∙ sym (is (c .before) ∙ rw (le-leb _ _ (c .if5 .left)))
 
 pub whole16-spec : {M : Type 1} → statement M
 whole16-spec =
@@ -54,6 +47,6 @@ whole16-spec =
     (tie.spec at-nan (λ c. no-nan (x c) (c .if1 .left)) (λ c. sym (is-zero (x (c .before)) (is-f32 (c .before)) (c .if2 .taken)))
     (λ c. sym (at-end (c .before) ∙ rw (lt-leb _ _ (c .if4 .taken)))) (λ c. sym (at-end (c .before) ∙ rw (le-leb _ _ (c .if4 .left))))
     (λ c. search needs) (λ c. search needs) (λ c. search needs) (λ c. record { sfits = small c })
-    (λ c. rw (minus w16 (t (c .before)) (small (c .before))) (minus-fits (c .before)))
+    (λ c. minus-fits w16 (t (c .before)) (small (c .before)))
     (λ c. toZ-pos w16 (t (c .before)) (small (c .before)) ∙ sym (is (c .before) ∙ rw (lt-leb _ _ (c .if5 .taken))))
     returns-6)
