@@ -10,10 +10,11 @@ use Rattle.angle.proofs.ScanAngle.to_rank.Tie as tie
 returns-2 : tie.Need-returns-2
 unfolding rankOf
 returns-2 c =
-    let n = c .before .before .before in
+    let k = c .before in
+    let n = k .before in
     kept w8 _ (c .held8 .ok) ∙ c .held8 .ensures
-    ∙ ap held (kept w16 _ (c .before .nearest-rank .ok) ∙ c .before .nearest-rank .ensures ∙ ap nearestRank (kept w16 _ (c .before .before .known-told2 .given .0 .1)))
-    ∙ sym (ap toRank (n .self2 .given .1))
+    ∙ ap held (kept w16 _ (k .nearest-rank .ok) ∙ k .nearest-rank .ensures ∙ ap nearestRank (kept w16 _ (n .known-told2 .given .0 .1)))
+    ∙ sym (ap toRank (n .before .self2 .given .1))
 
 pub to-rank-spec : {M : Type 1} → statement M
 to-rank-spec =
