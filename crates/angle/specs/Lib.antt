@@ -1,0 +1,3 @@
+pub mod Angle
+pub mod Sign
+pub mod Theorems
