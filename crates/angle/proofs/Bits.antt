@@ -1,4 +1,4 @@
--- Two's complement at every width: a number is read back from its bits, and numbers are the same exactly when their bits are. Assumes nothing.
+-- Two's complement at every width: negation, and that numbers are the same exactly when their bits are. Assumes nothing.
 use Prim.Native.Nat.{ℕ, suc, _-_, _<_, _^_}
 use mathlib.Core.Path.{_≡_, refl, sym, ap, _∙_}
 use mathlib.Core.Bool.{Bool, true, false}
@@ -12,10 +12,6 @@ use mir.Val.{SFits, ofZ, toZ, bits, hbits}
 use mir.ValLaws.{toZ-ofZ, toZ-pos, pow-bits, half-full}
 use Rattle.angle.specs.Angle.{eqZ}
 use Rattle.angle.specs.Sign.{sided-fits}
-
--- what stands in a variant of an enum comes with its bound, and not with `SFits`
-pub kept : (w : Width) (z : ℤ) → mag z < 2 ^ hbits w → toZ w (ofZ w z) ≡ z
-kept w z h = toZ-ofZ w z (record { sfits = h })
 
 -- `-n`, as the machine works it out for an n that is not negative
 module _ (w : Width) (n : ℕ) (h : n < 2 ^ hbits w) where

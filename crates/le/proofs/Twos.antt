@@ -69,3 +69,7 @@ high w x h l =
     let e : negsuc 0 -ℤ toZ w (2 ^ bits w - 1 - x) ≡ negsuc (2 ^ bits w - 1 - x) = rw (toZ-pos w (2 ^ bits w - 1 - x) lt) (less-pos (2 ^ bits w - 1 - x)) in
     let f : 2 ^ bits w - suc (2 ^ bits w - 1 - x) ≡ x = omega arith in
     record { sub = rw e (record { sfits = lt }); is = rw (e, f) }
+
+-- a number with its bound, as a call's result or a variant of an enum has it, is read back from its bits
+pub kept : (w : Width) (z : ℤ) → mag z < 2 ^ hbits w → toZ w (ofZ w z) ≡ z
+kept w z h = toZ-ofZ w z (record { sfits = h })

@@ -2,14 +2,13 @@ use borrow.Author.Needs.{needs}
 use mathlib.Core.Path.{ap, _∙_}
 use mir.Syntax.{w8}
 use mir.Val.{toZ}
-use mir.ValLaws.{toZ-ofZ}
+use Rattle.le.proofs.Twos.{kept}
 use Rattle.le.proofs.i8_at.Statement.{statement}
 use Rattle.le.proofs.i8_at.Tie as tie
 
 returns : tie.Need-returns
 returns c =
-    toZ-ofZ w8 (c .signed8 .result) (record { sfits = c .signed8 .ok })
-    ∙ c .signed8 .ensures ∙ ap (toZ w8) (c .before .u8-at .ensures)
+    kept w8 _ (c .signed8 .ok) ∙ c .signed8 .ensures ∙ ap (toZ w8) (c .before .u8-at .ensures)
 
 pub i8-at-spec : {M : Type 1} → statement M
 i8-at-spec = tie.close (tie.spec (λ c κs. search needs) (λ c κs. search needs) returns)

@@ -3,7 +3,8 @@ use borrow.Author.Needs.{needs}
 use mathlib.Core.Path.{_∙_}
 use mir.Syntax.{w8, w16}
 use Rattle.angle.specs.Angle.{sameAngle}
-use Rattle.angle.proofs.Bits.{kept, same-bits}
+use Rattle.le.proofs.Twos.{kept}
+use Rattle.angle.proofs.Bits.{same-bits}
 use Rattle.angle.proofs.ScanAngle.eq.Statement.{statement}
 use Rattle.angle.proofs.ScanAngle.eq.Tie as tie
 

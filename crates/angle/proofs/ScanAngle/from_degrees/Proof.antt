@@ -4,7 +4,7 @@ use mathlib.Core.Path.{ap, _∙_}
 use mir.Syntax.{w16}
 use Rattle.angle.specs.Angle.{step, fromDegrees}
 use Rattle.angle.specs.declared.ScanAngle.the-variants.{Scaled}
-use Rattle.angle.proofs.Bits.{kept}
+use Rattle.le.proofs.Twos.{kept}
 use Rattle.angle.proofs.ScanAngle.from_degrees.Statement.{statement}
 use Rattle.angle.proofs.ScanAngle.from_degrees.Tie as tie
 

@@ -2,7 +2,7 @@
 use borrow.Author.Needs.{needs}
 use mir.Syntax.{w8, w16}
 use Rattle.angle.specs.Angle.{step}
-use Rattle.angle.proofs.Bits.{kept}
+use Rattle.le.proofs.Twos.{kept}
 use Rattle.angle.proofs.ScanAngle.to_degrees.Statement.{statement}
 use Rattle.angle.proofs.ScanAngle.to_degrees.Tie as tie
 

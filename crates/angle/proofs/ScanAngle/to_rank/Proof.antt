@@ -3,7 +3,7 @@ use borrow.Author.Needs.{needs}
 use mathlib.Core.Path.{sym, ap, _∙_}
 use mir.Syntax.{w8, w16}
 use Rattle.angle.specs.Angle.{nearestRank, held, rankOf, toRank}
-use Rattle.angle.proofs.Bits.{kept}
+use Rattle.le.proofs.Twos.{kept}
 use Rattle.angle.proofs.ScanAngle.to_rank.Statement.{statement}
 use Rattle.angle.proofs.ScanAngle.to_rank.Tie as tie
 

@@ -9,7 +9,7 @@ use lib.Signed.{natAbs-le}
 use mir.Syntax.{w8, w16}
 use Rattle.angle.specs.Angle.{toScaled}
 use Rattle.angle.specs.Sign.{times, scaled-size}
-use Rattle.angle.proofs.Bits.{kept}
+use Rattle.le.proofs.Twos.{kept}
 use Rattle.angle.proofs.Wide.{wide, Product, product, Quotient, quotient}
 use Rattle.angle.proofs.ScanAngle.to_scaled.Statement.{statement}
 use Rattle.angle.proofs.ScanAngle.to_scaled.Tie as tie

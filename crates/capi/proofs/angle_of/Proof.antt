@@ -1,0 +1,21 @@
+use mir.Syntax.{w8, w16}
+use Rattle.le.proofs.Twos.{kept}
+use Rattle.refusal.proofs.Tests.{tests}
+use Rattle.capi.specs.Words.{angleOf}
+use borrow.Author.Needs.{needs}
+use Rattle.capi.proofs.angle_of.Statement.{statement}
+use Rattle.capi.proofs.angle_of.Tie as tie
+
+returns : tie.Need-returns
+unfolding angleOf
+returns c = rw (kept w16 _ (c .signed16 .ok), c .signed16 .ensures) (search tests)
+
+returns-2 : tie.Need-returns-2
+unfolding angleOf
+returns-2 c = rw (kept w8 _ (c .signed8 .ok), c .signed8 .ensures) (search tests)
+
+pub angle-of-spec : {M : Type 1} → statement M
+angle-of-spec =
+    tie.close
+    (tie.spec
+    (λ c. search needs) (λ c κs. search needs) returns (λ c. search needs) (λ c κs. search needs) returns-2)
