@@ -20,6 +20,22 @@ unsafe extern "C" {
     pub safe fn las_format_to_u8(format: u32, row: &mut Row);
     pub safe fn las_format_default() -> u32;
 
+    pub safe fn las_flags_return_number(flags: u32) -> u8;
+    pub safe fn las_flags_number_of_returns(flags: u32) -> u8;
+    pub safe fn las_flags_scan_direction(flags: u32) -> u8;
+    pub safe fn las_flags_is_synthetic(flags: u32) -> u8;
+    pub safe fn las_flags_is_key_point(flags: u32) -> u8;
+    pub safe fn las_flags_is_withheld(flags: u32) -> u8;
+    pub safe fn las_flags_is_overlap(flags: u32) -> u8;
+    pub safe fn las_flags_scanner_channel(flags: u32) -> u8;
+    pub safe fn las_flags_is_edge_of_flight_line(flags: u32) -> u8;
+    pub safe fn las_flags_class(flags: u32) -> u8;
+    pub safe fn las_flags_to_two_bytes(flags: u32, row: &mut Row);
+    pub safe fn las_flags_to_three_bytes(flags: u32) -> u32;
+    pub safe fn las_flags_clear_overlap_class(flags: u32) -> u32;
+    pub safe fn las_flags_eq(flags: u32, other: u32) -> u8;
+    pub safe fn las_flags_default() -> u32;
+
 }
 
 /// Lends a row to a call and gives back what it holds then. The row starts out with words that no

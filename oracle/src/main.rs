@@ -6,6 +6,7 @@
 mod answer;
 mod call;
 mod capi;
+mod flags;
 mod format;
 mod report;
 
@@ -15,6 +16,7 @@ use std::process::ExitCode;
 fn main() -> ExitCode {
     let mut tally = Tally::new();
     format::compare(&mut tally);
+    flags::compare(&mut tally);
     if tally.agreed() {
         ExitCode::SUCCESS
     } else {
