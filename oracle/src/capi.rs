@@ -36,6 +36,12 @@ unsafe extern "C" {
     pub safe fn las_flags_eq(flags: u32, other: u32) -> u8;
     pub safe fn las_flags_default() -> u32;
 
+    pub safe fn las_angle_to_rank(angle: u32) -> i8;
+    pub safe fn las_angle_to_scaled(angle: u32) -> i16;
+    pub safe fn las_angle_to_degrees(angle: u32) -> f32;
+    pub safe fn las_angle_from_degrees(degrees: f32) -> u32;
+    pub safe fn las_angle_eq(angle: u32, other: u32) -> u8;
+    pub safe fn las_angle_default() -> u32;
 }
 
 /// Lends a row to a call and gives back what it holds then. The row starts out with words that no
