@@ -1,0 +1,46 @@
+//! Puts the same questions to the published Rust and to the port, and counts where they differ.
+//!
+//! A module for each subject holds its calls and says over which inputs they are compared. A new
+//! subject adds its declarations to `capi`, a module beside these, and a line to `compare`.
+
+mod angle;
+mod answer;
+mod call;
+mod capi;
+mod flags;
+mod format;
+mod replay;
+mod report;
+
+use report::Tally;
+use std::{env, io, path::Path, process::ExitCode};
+
+/// Compares everything. `folder` is where the replay list lies.
+fn compare(folder: &Path, write: bool) -> io::Result<bool> {
+    let mut tally = Tally::new();
+    format::compare(&mut tally);
+    flags::compare(&mut tally);
+    angle::compare(&mut tally);
+    replay::compare(&mut tally, folder, write)?;
+    Ok(tally.agreed())
+}
+
+fn main() -> ExitCode {
+    let args: Vec<String> = env::args().skip(1).collect();
+    let (folder, write) = match args.iter().map(String::as_str).collect::<Vec<_>>()[..] {
+        [folder] => (folder, false),
+        [folder, "--write-replay"] => (folder, true),
+        _ => {
+            eprintln!("usage: oracle REPLAY-FOLDER [--write-replay]");
+            return ExitCode::from(2);
+        }
+    };
+    match compare(Path::new(folder), write) {
+        Ok(true) => ExitCode::SUCCESS,
+        Ok(false) => ExitCode::FAILURE,
+        Err(error) => {
+            eprintln!("oracle: {folder}: {error}");
+            ExitCode::FAILURE
+        }
+    }
+}
