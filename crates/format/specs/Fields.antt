@@ -1,5 +1,6 @@
 -- The fields of a point record in their order, and their sizes: LAS 1.4 R15, point data record formats 0 to 10; document 01, "Order".
 use Prim.Native.Nat.{ℕ, _+_}
+use mathlib.Core.Path.{_≡_}
 use mathlib.Core.Bool.{Bool, true, false, cond}
 use mathlib.Core.List.{List, [], _∷_, _++_}
 use lib.Dec.{ltb}
@@ -16,13 +17,15 @@ only true x = x ∷ []
 only false x = []
 
 -- "X, Y, Z, intensity, flags, angle and user data (old: angle first; extended: user data first), source id, then what the format has of time, colour, NIR, waveform, then extra bytes"
+abbrev pub restOf : Format → List Field
+restOf f =
+    only (f .«has_gps_time») GpsTime
+    ++ (only (f .«has_color») Color ++ (only (f .«has_nir») Nir ++ (only (f .«has_waveform») Waveform ++ (ExtraBytes ∷ []))))
+
 unfoldable pub fieldsOf : Format → List Field
 fieldsOf f =
     X ∷ Y ∷ Z ∷ Intensity ∷ Flags ∷
-    (cond (f .«is_extended») (UserData ∷ ScanAngle ∷ []) (ScanAngle ∷ UserData ∷ [])
-    ++ (PointSourceId ∷
-    (only (f .«has_gps_time») GpsTime
-    ++ (only (f .«has_color») Color ++ (only (f .«has_nir») Nir ++ (only (f .«has_waveform») Waveform ++ (ExtraBytes ∷ [])))))))
+    (cond (f .«is_extended») (UserData ∷ ScanAngle ∷ []) (ScanAngle ∷ UserData ∷ []) ++ (PointSourceId ∷ restOf f))
 
 -- how many bytes each takes; flags and angle have one more in extended formats
 abbrev pub sizeOf : Format → Field → ℕ
@@ -39,6 +42,30 @@ sizeOf f Color = 6
 sizeOf f Nir = 2
 sizeOf f Waveform = 29
 sizeOf f ExtraBytes = f .«extra_bytes»
+
+-- where each begins: the standard's places, and past the source id the sum of what the format has before it
+abbrev pub placeOf : Format → Field → ℕ
+placeOf f X = 0
+placeOf f Y = 4
+placeOf f Z = 8
+placeOf f Intensity = 12
+placeOf f Flags = 14
+placeOf f UserData = 17
+placeOf f ScanAngle = cond (f .«is_extended») 18 16
+placeOf f PointSourceId = cond (f .«is_extended») 20 18
+placeOf f GpsTime = cond (f .«is_extended») 22 20
+placeOf f Color = cond (f .«is_extended») 22 20 + cond (f .«has_gps_time») 8 0
+placeOf f Nir = cond (f .«is_extended») 22 20 + cond (f .«has_gps_time») 8 0 + cond (f .«has_color») 6 0
+placeOf f Waveform =
+    cond (f .«is_extended») 22 20 + cond (f .«has_gps_time») 8 0 + cond (f .«has_color») 6 0 + cond (f .«has_nir») 2 0
+placeOf f ExtraBytes =
+    cond (f .«is_extended») 22 20 + cond (f .«has_gps_time») 8 0 + cond (f .«has_color») 6 0 + cond (f .«has_nir») 2 0
+    + cond (f .«has_waveform») 29 0
+
+-- some fields stand one after another from a place on, with no gap and no overlap
+abbrev pub Follow : Format → ℕ → List Field → Type 0
+Follow f at [] = Unit
+Follow f at (x ∷ xs) = (placeOf f x ≡ at) × Follow f (at + sizeOf f x) xs
 
 -- the bytes of some fields together
 unfoldable pub sizes : Format → List Field → ℕ

@@ -3,12 +3,12 @@ use Prim.Native.Nat.{ℕ, _+_}
 use mathlib.Core.Path.{_≡_, refl, ap, sym, _∙_}
 use mathlib.Core.Bool.{Bool, true, false, cond}
 use mathlib.Core.List.{List, [], _∷_, _++_}
-use native.Mathlib.Nat.{zero-add, add-assoc}
+use native.Mathlib.Nat.{add-zero}
 use native.Mathlib.Omega.{arith}
 use Rattle.format.specs.declared.Format.{Format}
 use Rattle.format.specs.declared.Field.{Field}
-use Rattle.format.specs.declared.Field.the-variants.{UserData, ScanAngle}
-use Rattle.format.specs.Fields.{only, fieldsOf, sizeOf, sizes, recordBytes}
+use Rattle.format.specs.declared.Field.the-variants.{UserData, ScanAngle, PointSourceId, GpsTime, Color, Nir, Waveform}
+use Rattle.format.specs.Fields.{only, restOf, fieldsOf, sizeOf, placeOf, Follow, sizes, recordBytes}
 
 module _ (f : Format) where
   pub sizes-append : (xs ys : List Field) → sizes f (xs ++ ys) ≡ sizes f xs + sizes f ys
@@ -32,3 +32,24 @@ module _ (f : Format) where
   pub record-sum : recordBytes f ≡ 20 + cond (f .«is_extended») 2 0 + cond (f .«has_gps_time») 8 0 + cond (f .«has_color») 6 0 + cond (f .«has_nir») 2 0 + cond (f .«has_waveform») 29 0 + f .«extra_bytes»
   unfolding recordBytes fieldsOf sizes
   record-sum = simp (sizes-append, sizes-only) (omega (arith, middle (f .«is_extended») refl))
+
+  -- a field that may be missing stands at its place where it is there
+  follow-only : (b : Bool) (x : Field) (at : ℕ) (xs : List Field) → placeOf f x ≡ at → Follow f (at + cond b (sizeOf f x) 0) xs → Follow f at (only b x ++ xs)
+  follow-only true x at xs e r = (e, r)
+  follow-only false x at xs e r = rw add-zero at r
+
+  rest-follow : Follow f (placeOf f GpsTime) (restOf f)
+  rest-follow =
+      follow-only (f .«has_gps_time») GpsTime (placeOf f GpsTime) _ refl
+      (follow-only (f .«has_color») Color (placeOf f Color) _ refl
+      (follow-only (f .«has_nir») Nir (placeOf f Nir) _ refl
+      (follow-only (f .«has_waveform») Waveform (placeOf f Waveform) _ refl (refl, tt))))
+
+  middle-follow : (e : Bool) → f .«is_extended» ≡ e → Follow f (14 + cond e 3 2) (cond e (UserData ∷ ScanAngle ∷ []) (ScanAngle ∷ UserData ∷ []) ++ (PointSourceId ∷ restOf f))
+  middle-follow true h = let r = rest-follow in rw h (refl, (refl, (refl, rw h at r)))
+  middle-follow false h = let r = rest-follow in rw h (refl, (refl, (refl, rw h at r)))
+
+  -- the fields of a record follow each other from its first byte on
+  pub fields-follow : Follow f 0 (fieldsOf f)
+  unfolding fieldsOf
+  fields-follow = (refl, (refl, (refl, (refl, (refl, middle-follow (f .«is_extended») refl)))))
