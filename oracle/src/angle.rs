@@ -38,6 +38,20 @@ fn word(angle: ScanAngle) -> u32 {
     }
 }
 
+static RANK: Call = Call {
+    name: "las_angle_rank",
+    op: None,
+    rust: |x, _| Answer::result(word(ScanAngle::Rank(x as i8))),
+    port: |x, _| Answer::result(capi::las_angle_rank(x as i8)),
+};
+
+static SCALED_ANGLE: Call = Call {
+    name: "las_angle_scaled",
+    op: None,
+    rust: |x, _| Answer::result(word(ScanAngle::Scaled(x as i16))),
+    port: |x, _| Answer::result(capi::las_angle_scaled(x as i16)),
+};
+
 pub static TO_RANK: Call = Call {
     name: "las_angle_to_rank",
     op: Some(30),
@@ -101,6 +115,8 @@ fn nth_rank(i: u64) -> u32 {
 }
 
 pub fn compare(tally: &mut Tally) {
+    tally.add(RANK.over(1 << 8, |i| (i as u32, 0)));
+    tally.add(SCALED_ANGLE.over(1 << 16, |i| (i as u32, 0)));
     for call in READINGS {
         let scaled = call.over(1 << 16, |i| (nth_scaled(i), 0));
         tally.add(scaled.and(call.over(RANKS, |i| (nth_rank(i), 0))));

@@ -20,6 +20,8 @@ unsafe extern "C" {
     pub safe fn las_format_to_u8(format: u32, row: &mut Row);
     pub safe fn las_format_default() -> u32;
 
+    pub safe fn las_flags_two_bytes(a: u8, b: u8) -> u32;
+    pub safe fn las_flags_three_bytes(a: u8, b: u8, c: u8) -> u32;
     pub safe fn las_flags_return_number(flags: u32) -> u8;
     pub safe fn las_flags_number_of_returns(flags: u32) -> u8;
     pub safe fn las_flags_scan_direction(flags: u32) -> u8;
@@ -36,6 +38,8 @@ unsafe extern "C" {
     pub safe fn las_flags_eq(flags: u32, other: u32) -> u8;
     pub safe fn las_flags_default() -> u32;
 
+    pub safe fn las_angle_rank(rank: i8) -> u32;
+    pub safe fn las_angle_scaled(scaled: i16) -> u32;
     pub safe fn las_angle_to_rank(angle: u32) -> i8;
     pub safe fn las_angle_to_scaled(angle: u32) -> i16;
     pub safe fn las_angle_to_degrees(angle: u32) -> f32;

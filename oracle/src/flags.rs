@@ -46,6 +46,32 @@ fn image(flags: Flags) -> u32 {
     three(a, b, c)
 }
 
+static TWO_BYTES: Call = Call {
+    name: "las_flags_two_bytes",
+    op: None,
+    rust: |x, _| {
+        let [a, b, ..] = x.to_le_bytes();
+        Answer::result(word(Flags::TwoByte(a, b)))
+    },
+    port: |x, _| {
+        let [a, b, ..] = x.to_le_bytes();
+        Answer::result(capi::las_flags_two_bytes(a, b))
+    },
+};
+
+static THREE_BYTES: Call = Call {
+    name: "las_flags_three_bytes",
+    op: None,
+    rust: |x, _| {
+        let [a, b, c, _] = x.to_le_bytes();
+        Answer::result(word(Flags::ThreeByte(a, b, c)))
+    },
+    port: |x, _| {
+        let [a, b, c, _] = x.to_le_bytes();
+        Answer::result(capi::las_flags_three_bytes(a, b, c))
+    },
+};
+
 pub static RETURN_NUMBER: Call = Call {
     name: "las_flags_return_number",
     op: Some(10),
@@ -252,6 +278,8 @@ fn ordered(i: u64, x: u32, y: u32) -> (u32, u32) {
 }
 
 pub fn compare(tally: &mut Tally) {
+    tally.add(TWO_BYTES.over(1 << 16, |i| (i as u32, 0)));
+    tally.add(THREE_BYTES.over(1 << 24, |i| (i as u32, 0)));
     for call in READINGS {
         let two_byte = call.over(TWO_BYTE, nth_two_byte);
         tally.add(two_byte.and(call.over(THREE_BYTE, nth_three_byte)));
