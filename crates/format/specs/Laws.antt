@@ -1,5 +1,5 @@
 -- Laws of the field table.
-use Prim.Native.Nat.{ℕ, _+_}
+use Prim.Native.Nat.{ℕ, _+_, _≤_}
 use mathlib.Core.Path.{_≡_, refl, ap, sym, _∙_}
 use mathlib.Core.Bool.{Bool, true, false, cond}
 use mathlib.Core.List.{List, [], _∷_, _++_}
@@ -7,8 +7,18 @@ use native.Mathlib.Nat.{add-zero}
 use native.Mathlib.Omega.{arith}
 use Rattle.format.specs.declared.Format.{Format}
 use Rattle.format.specs.declared.Field.{Field}
-use Rattle.format.specs.declared.Field.the-variants.{UserData, ScanAngle, PointSourceId, GpsTime, Color, Nir, Waveform}
+use Rattle.format.specs.declared.Field.the-variants.{UserData, ScanAngle, PointSourceId, GpsTime, Color, Nir, Waveform, ExtraBytes}
 use Rattle.format.specs.Fields.{only, restOf, fieldsOf, sizeOf, placeOf, Follow, sizes, recordBytes}
+
+-- what is there or not is at most what is there
+pub when-le : (b : Bool) (n : ℕ) → cond b n 0 ≤ n
+when-le true n = omega arith
+when-le false n = omega arith
+
+-- a place that is two bytes further on in extended formats
+pub further : (n : ℕ) (b : Bool) → cond b (n + 2) n ≡ n + cond b 2 0
+further n true = refl
+further n false = sym (add-zero n)
 
 module _ (f : Format) where
   pub sizes-append : (xs ys : List Field) → sizes f (xs ++ ys) ≡ sizes f xs + sizes f ys
@@ -53,3 +63,12 @@ module _ (f : Format) where
   pub fields-follow : Follow f 0 (fieldsOf f)
   unfolding fieldsOf
   fields-follow = (refl, (refl, (refl, (refl, (refl, middle-follow (f .«is_extended») refl)))))
+
+  -- the extra bytes are the last, and what stands before them is at most 67 bytes
+  pub record-end : recordBytes f ≡ placeOf f ExtraBytes + f .«extra_bytes»
+  record-end = record-sum ∙ rw (further 20 (f .«is_extended»))
+
+  pub fixed-le : placeOf f ExtraBytes ≤ 67
+  fixed-le =
+      rw (further 20 (f .«is_extended»))
+      (omega (arith, when-le (f .«is_extended») 2, when-le (f .«has_gps_time») 8, when-le (f .«has_color») 6, when-le (f .«has_nir») 2, when-le (f .«has_waveform») 29))
