@@ -20,6 +20,10 @@ pub further : (n : ℕ) (b : Bool) → cond b (n + 2) n ≡ n + cond b 2 0
 further n true = refl
 further n false = sym (add-zero n)
 
+pub after-source : (b : Bool) → cond b 22 20 ≡ cond b 20 18 + 2
+after-source true = refl
+after-source false = refl
+
 module _ (f : Format) where
   pub sizes-append : (xs ys : List Field) → sizes f (xs ++ ys) ≡ sizes f xs + sizes f ys
   unfolding sizes

@@ -30,10 +30,11 @@ slotsOf f =
     slotOf (f .«has_waveform») Waveform ∷
     Some ExtraBytes ∷ []
 
--- the places of the fields after the source id, from the table
+-- the places of the source id and of the fields after it, from the table
 unfoldable pub placesOf : Format → Places
 placesOf f =
     record {
+      «point_source_id» = placeOf f PointSourceId;
       «gps_time» = placeOf f GpsTime;
       color = placeOf f Color;
       nir = placeOf f Nir;

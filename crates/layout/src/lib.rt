@@ -19,8 +19,9 @@ pub enum Place {
     Missing,
 }
 
-// The places of the fields that stand after the source id, whether or not the format has them.
+// The places of the source id and of the fields after it, whether or not the format has them.
 pub struct Places {
+    pub point_source_id: usize,
     pub gps_time: usize,
     pub color: usize,
     pub nir: usize,
@@ -60,16 +61,18 @@ pub fn fields(format: Format) -> [Slot; 13]
     ]
 }
 
-// The places of the fields after the source id.
+// The places of the source id and of the fields after it.
 pub fn places_for(format: Format) -> Places
     ensures { λ r. ⌜ r ≡ placesOf format ⌝ }
 {
-    let gps_time = 20 + when(format.is_extended, 2);
+    let point_source_id = 18 + when(format.is_extended, 2);
+    let gps_time = point_source_id + 2;
     let color = gps_time + when(format.has_gps_time, 8);
     let nir = color + when(format.has_color, 6);
     let waveform = nir + when(format.has_nir, 2);
     let extra_bytes = waveform + when(format.has_waveform, 29);
     Places {
+        point_source_id,
         gps_time,
         color,
         nir,
@@ -84,11 +87,10 @@ impl Layout {
         ensures { λ r. ⌜ r ≡ layoutOf format ⌝ }
     {
         let at = places_for(format);
-        let longer = when(format.is_extended, 2);
         Layout {
             user_data: 17,
-            scan_angle: 16 + longer,
-            point_source_id: 18 + longer,
+            scan_angle: 16 + when(format.is_extended, 2),
+            point_source_id: at.point_source_id,
             gps_time: placed(format.has_gps_time, at.gps_time),
             rgb: placed(format.has_color, at.color),
             nir: placed(format.has_nir, at.nir),

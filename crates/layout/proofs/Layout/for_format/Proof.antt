@@ -15,8 +15,8 @@ last : (c : tie.After-places-for) → c .places-for .result .«extra_bytes» ≡
 unfolding placesOf
 last c = ap (λ (p : Places). p .«extra_bytes») (c .places-for .ensures)
 
-add-t10 : tie.Need-add-t10
-add-t10 c =
+add-t9 : tie.Need-add-t9
+add-t9 c =
     let p = c .before .before .before .before .before .before in
     omega (arith, last p, fixed-le (p .before .args .format))
 
@@ -31,7 +31,7 @@ returns c =
     λ i. record {
       «user_data» = 17;
       «scan_angle» = (ap (λ (n : ℕ). 16 + n) (w .when .ensures .0) ∙ sym (further 16 (f .«is_extended»))) i;
-      «point_source_id» = (ap (λ (n : ℕ). 18 + n) (w .when .ensures .0) ∙ sym (further 18 (f .«is_extended»))) i;
+      «point_source_id» = (e i) .«point_source_id»;
       «gps_time» = (q .before .before .placed .ensures ∙ ap (λ (x : Places). placedOf (f .«has_gps_time») (x .«gps_time»)) e) i;
       rgb = (q .before .placed2 .ensures ∙ ap (λ (x : Places). placedOf (f .«has_color») (x .color)) e) i;
       nir = (q .placed3 .ensures ∙ ap (λ (x : Places). placedOf (f .«has_nir») (x .nir)) e) i;
@@ -39,4 +39,4 @@ returns c =
     }
 
 pub for-format-spec : {M : Type 1} → statement M
-for-format-spec = tie.close (tie.spec (λ c κs. search needs) (λ c κs. search needs) (λ c. search needs) (λ c. search needs) (λ c κs. search needs) (λ c κs. search needs) (λ c κs. search needs) (λ c. search needs) add-t10 returns)
+for-format-spec = tie.close (tie.spec (λ c κs. search needs) (λ c κs. search needs) (λ c. search needs) (λ c κs. search needs) (λ c κs. search needs) (λ c κs. search needs) (λ c. search needs) add-t9 returns)
