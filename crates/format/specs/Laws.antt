@@ -5,10 +5,13 @@ use mathlib.Core.Bool.{Bool, true, false, cond}
 use mathlib.Core.List.{List, [], _∷_, _++_}
 use native.Mathlib.Nat.{add-zero}
 use native.Mathlib.Omega.{arith}
+use lib.Dec.{ltb}
 use Rattle.format.specs.declared.Format.{Format}
 use Rattle.format.specs.declared.Field.{Field}
 use Rattle.format.specs.declared.Field.the-variants.{UserData, ScanAngle, PointSourceId, GpsTime, Color, Nir, Waveform, ExtraBytes}
-use Rattle.format.specs.Fields.{only, restOf, fieldsOf, sizeOf, placeOf, Follow, sizes, recordBytes}
+use Rattle.refusal.specs.declared.Refusal.the-variants.{RecordLength}
+use Rattle.format.specs.declared.FormatLen.the-variants.{Is, Refused}
+use Rattle.format.specs.Fields.{only, restOf, fieldsOf, sizeOf, placeOf, Follow, sizes, recordBytes, lenOf}
 
 -- what is there or not is at most what is there
 pub when-le : (b : Bool) (n : ℕ) → cond b n 0 ≤ n
@@ -76,3 +79,12 @@ module _ (f : Format) where
   fixed-le =
       rw (further 20 (f .«is_extended»))
       (omega (arith, when-le (f .«is_extended») 2, when-le (f .«has_gps_time») 8, when-le (f .«has_color») 6, when-le (f .«has_nir») 2, when-le (f .«has_waveform») 29))
+
+  -- a length that is no refusal is the record's
+  pub len-is : (n : ℕ) → lenOf f ≡ Is n → n ≡ recordBytes f
+  unfolding lenOf
+  len-is n e = go (ltb 65535 (recordBytes f)) e
+    where
+      go : (b : Bool) → cond b (Refused (RecordLength (recordBytes f))) (Is (recordBytes f)) ≡ Is n → n ≡ recordBytes f
+      go true e = let z : _≡_ {A = ℕ} 0 1 = cc in absurd (omega arith)
+      go false e = cc
