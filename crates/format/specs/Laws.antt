@@ -80,6 +80,11 @@ module _ (f : Format) where
       rw (further 20 (f .«is_extended»))
       (omega (arith, when-le (f .«is_extended») 2, when-le (f .«has_gps_time») 8, when-le (f .«has_color») 6, when-le (f .«has_nir») 2, when-le (f .«has_waveform») 29))
 
+  -- what stands from the time on is the rest of the record
+  pub rest-sum : recordBytes f ≡ placeOf f GpsTime + sizes f (restOf f)
+  unfolding sizes
+  rest-sum = record-sum ∙ rw (further 20 (f .«is_extended»)) (simp (sizes-append, sizes-only) (omega arith))
+
   -- a length that is no refusal is the record's
   pub len-is : (n : ℕ) → lenOf f ≡ Is n → n ≡ recordBytes f
   unfolding lenOf

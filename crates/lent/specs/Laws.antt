@@ -40,3 +40,13 @@ turn d bs rest ys at r h e w = rw (tail d bs ys at r h e) (length-sets d at bs, 
 -- what is written from the start on
 pub whole : (d bs : List ℕ) (n : ℕ) → length bs ≡ n → n ≤ length d → sets d 0 bs ≡ bs ++ drop n d
 whole d bs n e h = rw (← e) (sets-eq bs d 0 (omega arith) ∙ rw zero-add)
+
+-- a piece and what is still to come fit, so the piece fits
+pub room : (d bs rest : List ℕ) (at : ℕ) → at + length (bs ++ rest) ≤ length d → at + length bs ≤ length d
+room d bs rest at h = omega (arith, length-append bs rest)
+
+-- after a piece: what is still to come fits, and written from there it makes the whole
+pub next : (d bs rest e : List ℕ) (at to : ℕ) → at + length (bs ++ rest) ≤ length d → to ≡ at + length bs → e ≡ sets d at bs → (to + length rest ≤ length e) × (sets e to rest ≡ sets d at (bs ++ rest))
+next d bs rest e at to h p q =
+    let l : length e ≡ length d = ap length q ∙ length-sets d at bs in
+    (omega (arith, length-append bs rest), rw (q, p) (sym (sets-append d bs rest at)))

@@ -1,0 +1,119 @@
+-- Piece after piece: after each, what is still to come fits, and written from there it makes the whole.
+use Prim.Native.Nat.{ℕ, _+_, _≤_}
+use mathlib.Core.Path.{_≡_, sym, ap, _∙_}
+use mathlib.Core.List.{List, _++_}
+use borrow.Author.Needs.{needs}
+use native.Mathlib.Omega.{arith}
+use lib.ListN.{length}
+use lib.Seq.{sets}
+use Rattle.lent.specs.Laws.{room, next, tail}
+use Rattle.point_write.specs.Write.{onlyBytes, timeBytes, colorBytes, nirBytes, waveformBytes, joined}
+use Rattle.point_write.specs.Laws.{fromColor, fromNir, fromWaveform, rest-is}
+use Rattle.point_write.proofs.write_rest.Statement.{statement}
+use Rattle.point_write.proofs.write_rest.Tie as tie
+
+abbrev time : tie.Start → List ℕ
+time s = onlyBytes (s .args .format .«has_gps_time») (timeBytes (s .args .point .«gps_time»))
+
+abbrev color : tie.Start → List ℕ
+color s = onlyBytes (s .args .format .«has_color») (colorBytes (s .args .point .«color»))
+
+abbrev nir : tie.Start → List ℕ
+nir s = onlyBytes (s .args .format .«has_nir») (nirBytes (s .args .point .«nir»))
+
+abbrev waveform : tie.Start → List ℕ
+waveform s = onlyBytes (s .args .format .«has_waveform») (waveformBytes (s .args .point .«waveform»))
+
+abbrev after-time : tie.Start → List ℕ
+after-time s = fromColor (s .args .format) (s .args .point) (s .args .extra .now)
+
+abbrev after-color : tie.Start → List ℕ
+after-color s = fromNir (s .args .format) (s .args .point) (s .args .extra .now)
+
+abbrev after-nir : tie.Start → List ℕ
+after-nir s = fromWaveform (s .args .format) (s .args .point) (s .args .extra .now)
+
+abbrev after-waveform : tie.Start → List ℕ
+after-waveform s = s .args .extra .now
+
+-- in a list d, from a place on, the rest fits and makes the whole
+abbrev Going : tie.Start → List ℕ → ℕ → List ℕ → Type 0
+Going s d at rest = (at + length rest ≤ length d) × (sets d at rest ≡ sets (s .args .dst .now) (s .args .at) (time s ++ after-time s))
+
+start : (s : tie.Start) → s .args .at + length (time s ++ after-time s) ≤ length (s .args .dst .now)
+start s = rw (rest-is (s .args .format) (s .args .point) (s .args .extra .now)) at (s .pre)
+
+past-time : (c : tie.After-put-when) → Going (c .before .before .before .before .before .before) (c .put-when .last .0) (c .put-when .result) (after-time (c .before .before .before .before .before .before))
+past-time c =
+    let s = c .before .before .before .before .before .before in
+    let e = rw (c .before .before .before .time-bytes .ensures) at (c .put-when .ensures) in
+    next (s .args .dst .now) (time s) (after-time s) (c .put-when .last .0) (s .args .at) (c .put-when .result) (start s) (e .0) (e .1)
+
+past-color : (c : tie.After-put-when2) → Going (c .before .before .before .before .before .before .before .before .before .before .before .before) (c .put-when2 .last .0) (c .put-when2 .result) (after-color (c .before .before .before .before .before .before .before .before .before .before .before .before))
+past-color c =
+    let s = c .before .before .before .before .before .before .before .before .before .before .before .before in
+    let b = c .before .before .before .before .before .before in
+    let g = past-time b in
+    let e = rw (c .before .before .before .color-bytes .ensures) at (c .put-when2 .ensures) in
+    let h = next (b .put-when .last .0) (color s) (after-color s) (c .put-when2 .last .0) (b .put-when .result) (c .put-when2 .result) (g .0) (e .0) (e .1) in
+    (h .0, h .1 ∙ g .1)
+
+past-nir : (c : tie.After-put-when3) → Going (c .before .before .before .before .before .before .before .before .before .before .before .before .before .before .before .before .before .before) (c .put-when3 .last .0) (c .put-when3 .result) (after-nir (c .before .before .before .before .before .before .before .before .before .before .before .before .before .before .before .before .before .before))
+past-nir c =
+    let s = c .before .before .before .before .before .before .before .before .before .before .before .before .before .before .before .before .before .before in
+    let b = c .before .before .before .before .before .before in
+    let g = past-color b in
+    let e = rw (c .before .before .before .nir-bytes .ensures) at (c .put-when3 .ensures) in
+    let h = next (b .put-when2 .last .0) (nir s) (after-nir s) (c .put-when3 .last .0) (b .put-when2 .result) (c .put-when3 .result) (g .0) (e .0) (e .1) in
+    (h .0, h .1 ∙ g .1)
+
+past-waveform : (c : tie.After-put-when4) → Going (c .before .before .before .before .before .before .before .before .before .before .before .before .before .before .before .before .before .before .before .before .before .before .before .before) (c .put-when4 .last .0) (c .put-when4 .result) (after-waveform (c .before .before .before .before .before .before .before .before .before .before .before .before .before .before .before .before .before .before .before .before .before .before .before .before))
+past-waveform c =
+    let s = c .before .before .before .before .before .before .before .before .before .before .before .before .before .before .before .before .before .before .before .before .before .before .before .before in
+    let b = c .before .before .before .before .before .before in
+    let g = past-nir b in
+    let e = rw (c .before .before .before .waveform-bytes .ensures) at (c .put-when4 .ensures) in
+    let h = next (b .put-when3 .last .0) (waveform s) (after-waveform s) (c .put-when4 .last .0) (b .put-when3 .result) (c .put-when4 .result) (g .0) (e .0) (e .1) in
+    (h .0, h .1 ∙ g .1)
+
+put-when-requires : tie.Need-put-when-requires
+put-when-requires c κs =
+    let s = c .before .before .before .before .before in
+    rw (c .before .before .time-bytes .ensures) (room (s .args .dst .now) (time s) (after-time s) (s .args .at) (start s))
+
+put-when-requires-2 : tie.Need-put-when-requires-2
+put-when-requires-2 c κs =
+    let s = c .before .before .before .before .before .before .before .before .before .before .before in
+    let b = c .before .before .before .before .before in
+    rw (c .before .before .color-bytes .ensures) (room (b .put-when .last .0) (color s) (after-color s) (b .put-when .result) (past-time b .0))
+
+put-when-requires-3 : tie.Need-put-when-requires-3
+put-when-requires-3 c κs =
+    let s = c .before .before .before .before .before .before .before .before .before .before .before .before .before .before .before .before .before in
+    let b = c .before .before .before .before .before in
+    rw (c .before .before .nir-bytes .ensures) (room (b .put-when2 .last .0) (nir s) (after-nir s) (b .put-when2 .result) (past-color b .0))
+
+put-when-requires-4 : tie.Need-put-when-requires-4
+put-when-requires-4 c κs =
+    let s = c .before .before .before .before .before .before .before .before .before .before .before .before .before .before .before .before .before .before .before .before .before .before .before in
+    let b = c .before .before .before .before .before in
+    rw (c .before .before .waveform-bytes .ensures) (room (b .put-when3 .last .0) (waveform s) (after-waveform s) (b .put-when3 .result) (past-nir b .0))
+
+-- the last piece, the extra bytes, starts within what is left
+last-fits : (g : tie.After-put-when4) → g .put-when4 .result ≤ length (g .put-when4 .last .0)
+last-fits g = omega (arith, past-waveform g .0)
+
+returns : tie.Need-returns
+returns c =
+    let g = c .before .before .before .before .before .before in
+    let s = g .before .before .before .before .before .before .before .before .before .before .before .before .before .before .before .before .before .before .before .before .before .before .before .before in
+    let w = past-waveform g in
+    tail (g .put-when4 .last .0) (s .args .extra .now) (c .before .before .put .last .0) (g .put-when4 .result) (c .before .before .put .result) (w .0) (c .before .before .put .ensures)
+    ∙ w .1 ∙ ap (sets (s .args .dst .now) (s .args .at)) (sym (rest-is (s .args .format) (s .args .point) (s .args .extra .now)))
+
+pub write-rest-spec : {M : Type 1} → statement M
+write-rest-spec =
+    tie.close
+    (tie.spec
+    (λ c κs. search needs) (λ c. search needs) put-when-requires (λ c κs. search needs) (λ c. search needs) put-when-requires-2 (λ c κs. search needs) (λ c. search needs) put-when-requires-3 (λ c κs. search needs) (λ c. search needs) put-when-requires-4
+    (λ c. last-fits (c .before .before)) (λ c. last-fits (c .before .before)) (λ c. search needs) (λ c κs. search needs) (λ c. search needs) returns)
