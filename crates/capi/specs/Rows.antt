@@ -1,8 +1,6 @@
 -- What a row of three numbers says of an answer: document 01's number, value and record number; number 0 says that it worked, and the value is the result.
 use Prim.Native.Nat.{ℕ, _+_, _*_}
 use mathlib.Core.List.{List, [], _∷_}
-use Rattle.refusal.specs.declared.Refusal.{Refusal}
-use Rattle.refusal.specs.Table.{numberOf, valueOf}
 use Rattle.flags.specs.declared.TwoBytes.{TwoBytes}
 use Rattle.flags.specs.declared.TwoBytes.the-variants as two
 use Rattle.format.specs.declared.NewFormat.{NewFormat}
@@ -11,10 +9,8 @@ use Rattle.format.specs.declared.FormatLen.{FormatLen}
 use Rattle.format.specs.declared.FormatLen.the-variants as len
 use Rattle.format.specs.declared.FormatCode.{FormatCode}
 use Rattle.format.specs.declared.FormatCode.the-variants as code
-use Rattle.capi.specs.Words.{formatWord}
-
-abbrev pub refusedRow : Refusal → ℕ → List ℕ
-refusedRow r n = numberOf r ∷ valueOf r ∷ n ∷ []
+use Rattle.words.specs.Words.{formatWord}
+use Rattle.words.specs.Rows.{refusedRow}
 
 abbrev pub newRow : NewFormat → List ℕ
 newRow (new.Is f) = 0 ∷ formatWord f ∷ 0 ∷ []

@@ -11,8 +11,8 @@ ghost use Rattle.flags.specs.Bytes.{twoBytesOf, threeBytesOf, clearedOf, sameOf
 ghost use Rattle.format.specs.Codes.{formatOf, codeOf};
 ghost use Rattle.format.specs.Fields.{lenOf};
 ghost use Rattle.format.specs.Format.{extendedOf, plain};
-ghost use Rattle.capi.specs.Words.{packedOf, angleOf, angleWord, directionWord, flagsOf, flagsWord, threeWord, formatOfWord, formatWord};
-ghost use Rattle.capi.specs.Rows.{refusedRow, newRow, lenRow, codeRow, twoRow};
+ghost use Rattle.words.specs.Words.{packedOf, angleOf, angleWord, directionWord, flagsOf, flagsWord, threeWord, formatOfWord, formatWord};
+ghost use Rattle.capi.specs.Rows.{newRow, lenRow, codeRow, twoRow};
 use angle::ScanAngle;
 use flags::Flags;
 use flags::ScanDirection;
@@ -21,8 +21,6 @@ use format::Format;
 use format::FormatCode;
 use format::FormatLen;
 use format::NewFormat;
-use le::signed;
-use refusal::Refusal;
 
 // ---- formats
 
@@ -32,8 +30,8 @@ pub extern "C" fn las_format_new(code: u8, row: &mut [u64; 3])
     ensures { λ _. ⌜ now (row .exit) ≡ newRow (formatOf code) ⌝ }
 {
     match Format::new(code) {
-        NewFormat::Is(format) => tell(row, 0, format_word(format) as u64, 0),
-        NewFormat::Refused(refusal) => refuse(row, refusal, 0),
+        NewFormat::Is(format) => words::tell(row, 0, words::format_word(format) as u64, 0),
+        NewFormat::Refused(refusal) => words::refuse(row, refusal, 0),
     }
 }
 
@@ -42,7 +40,7 @@ pub extern "C" fn las_format_new(code: u8, row: &mut [u64; 3])
 pub extern "C" fn las_format_extend(format: u32) -> u32
     ensures { λ r. ⌜ r ≡ formatWord (extendedOf (formatOfWord format)) ⌝ }
 {
-    format_word(format_of(format).extend())
+    words::format_word(words::format_of(format).extend())
 }
 
 // The bytes of a record of the format.
@@ -50,9 +48,9 @@ pub extern "C" fn las_format_extend(format: u32) -> u32
 pub extern "C" fn las_format_len(format: u32, row: &mut [u64; 3])
     ensures { λ _. ⌜ now (row .exit) ≡ lenRow (lenOf (formatOfWord format)) ⌝ }
 {
-    match format_of(format).len() {
-        FormatLen::Is(n) => tell(row, 0, n as u64, 0),
-        FormatLen::Refused(refusal) => refuse(row, refusal, 0),
+    match words::format_of(format).len() {
+        FormatLen::Is(n) => words::tell(row, 0, n as u64, 0),
+        FormatLen::Refused(refusal) => words::refuse(row, refusal, 0),
     }
 }
 
@@ -61,9 +59,9 @@ pub extern "C" fn las_format_len(format: u32, row: &mut [u64; 3])
 pub extern "C" fn las_format_to_u8(format: u32, row: &mut [u64; 3])
     ensures { λ _. ⌜ now (row .exit) ≡ codeRow (codeOf (formatOfWord format)) ⌝ }
 {
-    match format_of(format).to_u8() {
-        FormatCode::Is(n) => tell(row, 0, n as u64, 0),
-        FormatCode::Refused(refusal) => refuse(row, refusal, 0),
+    match words::format_of(format).to_u8() {
+        FormatCode::Is(n) => words::tell(row, 0, n as u64, 0),
+        FormatCode::Refused(refusal) => words::refuse(row, refusal, 0),
     }
 }
 
@@ -72,7 +70,7 @@ pub extern "C" fn las_format_to_u8(format: u32, row: &mut [u64; 3])
 pub extern "C" fn las_format_default() -> u32
     ensures { λ r. ⌜ r ≡ formatWord plain ⌝ }
 {
-    format_word(Format::default())
+    words::format_word(Format::default())
 }
 
 // ---- flags
@@ -82,7 +80,7 @@ pub extern "C" fn las_format_default() -> u32
 pub extern "C" fn las_flags_two_bytes(a: u8, b: u8) -> u32
     ensures { λ r. ⌜ r ≡ flagsWord (Flags.TwoByte a b) ⌝ }
 {
-    flags_word(Flags::TwoByte(a, b))
+    words::flags_word(Flags::TwoByte(a, b))
 }
 
 // The flags of three bytes, as a flags word.
@@ -90,7 +88,7 @@ pub extern "C" fn las_flags_two_bytes(a: u8, b: u8) -> u32
 pub extern "C" fn las_flags_three_bytes(a: u8, b: u8, c: u8) -> u32
     ensures { λ r. ⌜ r ≡ flagsWord (Flags.ThreeByte a b c) ⌝ }
 {
-    flags_word(Flags::ThreeByte(a, b, c))
+    words::flags_word(Flags::ThreeByte(a, b, c))
 }
 
 // The return number.
@@ -98,7 +96,7 @@ pub extern "C" fn las_flags_three_bytes(a: u8, b: u8, c: u8) -> u32
 pub extern "C" fn las_flags_return_number(flags: u32) -> u8
     ensures { λ r. ⌜ r ≡ returnNumberOf (flagsOf flags) ⌝ }
 {
-    flags_of(flags).return_number()
+    words::flags_of(flags).return_number()
 }
 
 // The number of returns.
@@ -106,7 +104,7 @@ pub extern "C" fn las_flags_return_number(flags: u32) -> u8
 pub extern "C" fn las_flags_number_of_returns(flags: u32) -> u8
     ensures { λ r. ⌜ r ≡ numberOfReturnsOf (flagsOf flags) ⌝ }
 {
-    flags_of(flags).number_of_returns()
+    words::flags_of(flags).number_of_returns()
 }
 
 // The scan direction: 0 right to left, 1 left to right.
@@ -114,7 +112,7 @@ pub extern "C" fn las_flags_number_of_returns(flags: u32) -> u8
 pub extern "C" fn las_flags_scan_direction(flags: u32) -> u8
     ensures { λ r. ⌜ r ≡ directionWord (directionOf (flagsOf flags)) ⌝ }
 {
-    match flags_of(flags).scan_direction() {
+    match words::flags_of(flags).scan_direction() {
         ScanDirection::RightToLeft => 0,
         ScanDirection::LeftToRight => 1,
     }
@@ -125,7 +123,7 @@ pub extern "C" fn las_flags_scan_direction(flags: u32) -> u8
 pub extern "C" fn las_flags_is_synthetic(flags: u32) -> bool
     ensures { λ r. ⌜ r ≡ syntheticOf (flagsOf flags) ⌝ }
 {
-    flags_of(flags).is_synthetic()
+    words::flags_of(flags).is_synthetic()
 }
 
 // Whether the point is a key point.
@@ -133,7 +131,7 @@ pub extern "C" fn las_flags_is_synthetic(flags: u32) -> bool
 pub extern "C" fn las_flags_is_key_point(flags: u32) -> bool
     ensures { λ r. ⌜ r ≡ keyPointOf (flagsOf flags) ⌝ }
 {
-    flags_of(flags).is_key_point()
+    words::flags_of(flags).is_key_point()
 }
 
 // Whether the point is withheld.
@@ -141,7 +139,7 @@ pub extern "C" fn las_flags_is_key_point(flags: u32) -> bool
 pub extern "C" fn las_flags_is_withheld(flags: u32) -> bool
     ensures { λ r. ⌜ r ≡ withheldOf (flagsOf flags) ⌝ }
 {
-    flags_of(flags).is_withheld()
+    words::flags_of(flags).is_withheld()
 }
 
 // Whether the point is overlap, by the Rust's reading.
@@ -149,7 +147,7 @@ pub extern "C" fn las_flags_is_withheld(flags: u32) -> bool
 pub extern "C" fn las_flags_is_overlap(flags: u32) -> bool
     ensures { λ r. ⌜ r ≡ overlapOf (flagsOf flags) ⌝ }
 {
-    flags_of(flags).is_overlap()
+    words::flags_of(flags).is_overlap()
 }
 
 // The scanner channel.
@@ -157,7 +155,7 @@ pub extern "C" fn las_flags_is_overlap(flags: u32) -> bool
 pub extern "C" fn las_flags_scanner_channel(flags: u32) -> u8
     ensures { λ r. ⌜ r ≡ channelOf (flagsOf flags) ⌝ }
 {
-    flags_of(flags).scanner_channel()
+    words::flags_of(flags).scanner_channel()
 }
 
 // Whether the point is the edge of a flight line.
@@ -165,7 +163,7 @@ pub extern "C" fn las_flags_scanner_channel(flags: u32) -> u8
 pub extern "C" fn las_flags_is_edge_of_flight_line(flags: u32) -> bool
     ensures { λ r. ⌜ r ≡ edgeOf (flagsOf flags) ⌝ }
 {
-    flags_of(flags).is_edge_of_flight_line()
+    words::flags_of(flags).is_edge_of_flight_line()
 }
 
 // The class.
@@ -173,7 +171,7 @@ pub extern "C" fn las_flags_is_edge_of_flight_line(flags: u32) -> bool
 pub extern "C" fn las_flags_class(flags: u32) -> u8
     ensures { λ r. ⌜ r ≡ classOf (flagsOf flags) ⌝ }
 {
-    flags_of(flags).class()
+    words::flags_of(flags).class()
 }
 
 // The two bytes, the first in bits 0 to 7 of the value and the second in bits 8 to 15.
@@ -181,9 +179,9 @@ pub extern "C" fn las_flags_class(flags: u32) -> u8
 pub extern "C" fn las_flags_to_two_bytes(flags: u32, row: &mut [u64; 3])
     ensures { λ _. ⌜ now (row .exit) ≡ twoRow (twoBytesOf (flagsOf flags)) ⌝ }
 {
-    match flags_of(flags).to_two_bytes() {
-        TwoBytes::Bytes(a, b) => tell(row, 0, (a as u64) + (b as u64) * 256, 0),
-        TwoBytes::Refused(refusal) => refuse(row, refusal, 0),
+    match words::flags_of(flags).to_two_bytes() {
+        TwoBytes::Bytes(a, b) => words::tell(row, 0, (a as u64) + (b as u64) * 256, 0),
+        TwoBytes::Refused(refusal) => words::refuse(row, refusal, 0),
     }
 }
 
@@ -192,8 +190,8 @@ pub extern "C" fn las_flags_to_two_bytes(flags: u32, row: &mut [u64; 3])
 pub extern "C" fn las_flags_to_three_bytes(flags: u32) -> u32
     ensures { λ r. ⌜ r ≡ threeWord (threeBytesOf (flagsOf flags)) ⌝ }
 {
-    let bytes = flags_of(flags).to_three_bytes();
-    packed(bytes.a, bytes.b, bytes.c, 3)
+    let bytes = words::flags_of(flags).to_three_bytes();
+    words::packed(bytes.a, bytes.b, bytes.c, 3)
 }
 
 // The flags with the overlap class cleared.
@@ -201,7 +199,7 @@ pub extern "C" fn las_flags_to_three_bytes(flags: u32) -> u32
 pub extern "C" fn las_flags_clear_overlap_class(flags: u32) -> u32
     ensures { λ r. ⌜ r ≡ flagsWord (clearedOf (flagsOf flags)) ⌝ }
 {
-    flags_word(flags_of(flags).clear_overlap_class())
+    words::flags_word(words::flags_of(flags).clear_overlap_class())
 }
 
 // Whether the two have the same three bytes.
@@ -209,7 +207,7 @@ pub extern "C" fn las_flags_clear_overlap_class(flags: u32) -> u32
 pub extern "C" fn las_flags_eq(flags: u32, other: u32) -> bool
     ensures { λ r. ⌜ r ≡ sameOf (flagsOf flags) (flagsOf other) ⌝ }
 {
-    flags_of(flags).eq(flags_of(other))
+    words::flags_of(flags).eq(words::flags_of(other))
 }
 
 // Two zero bytes.
@@ -217,7 +215,7 @@ pub extern "C" fn las_flags_eq(flags: u32, other: u32) -> bool
 pub extern "C" fn las_flags_default() -> u32
     ensures { λ r. ⌜ r ≡ flagsWord (Flags.TwoByte 0 0) ⌝ }
 {
-    flags_word(Flags::default())
+    words::flags_word(Flags::default())
 }
 
 // ---- angles
@@ -227,7 +225,7 @@ pub extern "C" fn las_flags_default() -> u32
 pub extern "C" fn las_angle_rank(rank: i8) -> u32
     ensures { λ r. ⌜ r ≡ angleWord (ScanAngle.Rank rank) ⌝ }
 {
-    angle_word(ScanAngle::Rank(rank))
+    words::angle_word(ScanAngle::Rank(rank))
 }
 
 // The angle of a scaled number, as an angle word.
@@ -235,7 +233,7 @@ pub extern "C" fn las_angle_rank(rank: i8) -> u32
 pub extern "C" fn las_angle_scaled(scaled: i16) -> u32
     ensures { λ r. ⌜ r ≡ angleWord (ScanAngle.Scaled scaled) ⌝ }
 {
-    angle_word(ScanAngle::Scaled(scaled))
+    words::angle_word(ScanAngle::Scaled(scaled))
 }
 
 // The rank.
@@ -243,7 +241,7 @@ pub extern "C" fn las_angle_scaled(scaled: i16) -> u32
 pub extern "C" fn las_angle_to_rank(angle: u32) -> i8
     ensures { λ r. ⌜ r ≡ toRank (angleOf angle) ⌝ }
 {
-    angle_of(angle).to_rank()
+    words::angle_of(angle).to_rank()
 }
 
 // The scaled angle.
@@ -251,7 +249,7 @@ pub extern "C" fn las_angle_to_rank(angle: u32) -> i8
 pub extern "C" fn las_angle_to_scaled(angle: u32) -> i16
     ensures { λ r. ⌜ r ≡ toScaled (angleOf angle) ⌝ }
 {
-    angle_of(angle).to_scaled()
+    words::angle_of(angle).to_scaled()
 }
 
 // The angle in degrees.
@@ -259,7 +257,7 @@ pub extern "C" fn las_angle_to_scaled(angle: u32) -> i16
 pub extern "C" fn las_angle_to_degrees(angle: u32) -> f32
     ensures { λ r. ⌜ r ≡ toDegrees (angleOf angle) ⌝ }
 {
-    angle_of(angle).to_degrees()
+    words::angle_of(angle).to_degrees()
 }
 
 // The scaled angle of an f32 in degrees, as an angle word.
@@ -267,7 +265,7 @@ pub extern "C" fn las_angle_to_degrees(angle: u32) -> f32
 pub extern "C" fn las_angle_from_degrees(degrees: f32) -> u32
     ensures { λ r. ⌜ r ≡ angleWord (fromDegrees degrees) ⌝ }
 {
-    angle_word(ScanAngle::from_degrees(degrees))
+    words::angle_word(ScanAngle::from_degrees(degrees))
 }
 
 // Whether the two are the same angle.
@@ -275,7 +273,7 @@ pub extern "C" fn las_angle_from_degrees(degrees: f32) -> u32
 pub extern "C" fn las_angle_eq(angle: u32, other: u32) -> bool
     ensures { λ r. ⌜ r ≡ sameAngle (angleOf angle) (angleOf other) ⌝ }
 {
-    angle_of(angle).eq(angle_of(other))
+    words::angle_of(angle).eq(words::angle_of(other))
 }
 
 // Rank 0.
@@ -283,106 +281,5 @@ pub extern "C" fn las_angle_eq(angle: u32, other: u32) -> bool
 pub extern "C" fn las_angle_default() -> u32
     ensures { λ r. ⌜ r ≡ angleWord (ScanAngle.Rank (pos 0)) ⌝ }
 {
-    angle_word(ScanAngle::default())
-}
-
-// ---- words and rows
-
-// Four bytes as a number, the lowest first.
-fn packed(a: u8, b: u8, c: u8, d: u8) -> u32
-    ensures { λ r. ⌜ r ≡ packedOf a b c d ⌝ }
-{
-    (a as u32) + (b as u32) * 256 + (c as u32) * 65536 + (d as u32) * 16777216
-}
-
-// The flags of a word.
-fn flags_of(w: u32) -> Flags
-    ensures { λ r. ⌜ r ≡ flagsOf w ⌝ }
-{
-    let a = (w % 256) as u8;
-    let b = (w / 256 % 256) as u8;
-    if w / 16777216 == 3 {
-        return Flags::ThreeByte(a, b, (w / 65536 % 256) as u8);
-    }
-    Flags::TwoByte(a, b)
-}
-
-// The word of some flags.
-fn flags_word(flags: Flags) -> u32
-    ensures { λ r. ⌜ r ≡ flagsWord flags ⌝ }
-{
-    match flags {
-        Flags::TwoByte(a, b) => packed(a, b, 0, 2),
-        Flags::ThreeByte(a, b, c) => packed(a, b, c, 3),
-    }
-}
-
-// The format of a word.
-fn format_of(w: u32) -> Format
-    ensures { λ r. ⌜ r ≡ formatOfWord w ⌝ }
-{
-    Format {
-        has_gps_time: w % 2 == 1,
-        has_color: w / 2 % 2 == 1,
-        is_extended: w / 4 % 2 == 1,
-        has_waveform: w / 8 % 2 == 1,
-        has_nir: w / 16 % 2 == 1,
-        extra_bytes: (w / 65536) as u16,
-        is_compressed: w / 32 % 2 == 1,
-    }
-}
-
-// The word of a format.
-fn format_word(format: Format) -> u32
-    ensures { λ r. ⌜ r ≡ formatWord format ⌝ }
-{
-    bit(format.has_gps_time)
-        + bit(format.has_color) * 2
-        + bit(format.is_extended) * 4
-        + bit(format.has_waveform) * 8
-        + bit(format.has_nir) * 16
-        + bit(format.is_compressed) * 32
-        + (format.extra_bytes as u32) * 65536
-}
-
-// The angle of a word.
-fn angle_of(w: u32) -> ScanAngle
-    ensures { λ r. ⌜ r ≡ angleOf w ⌝ }
-{
-    if w / 65536 == 1 {
-        return ScanAngle::Scaled(signed::signed16((w % 65536) as u16));
-    }
-    ScanAngle::Rank(signed::signed8((w % 256) as u8))
-}
-
-// The word of an angle.
-fn angle_word(angle: ScanAngle) -> u32
-    ensures { λ r. ⌜ r ≡ angleWord angle ⌝ }
-{
-    match angle {
-        ScanAngle::Rank(rank) => signed::bits8(rank) as u32,
-        ScanAngle::Scaled(scaled) => (signed::bits16(scaled) as u32) + 65536,
-    }
-}
-
-// A yes-or-no as 1 or 0.
-fn bit(yes: bool) -> u32
-    ensures { λ r. ⌜ (r ≡ flag yes) × (r ≤ 1) ⌝ }
-{
-    if yes { 1 } else { 0 }
-}
-
-// A row's three numbers.
-fn tell(row: &mut [u64; 3], number: u64, value: u64, record: u64)
-    ensures { λ _. ⌜ now (row .exit) ≡ number ∷ value ∷ «record» ∷ [] ⌝ }
-{
-    *row = [number, value, record];
-}
-
-// A refusal's row.
-fn refuse(row: &mut [u64; 3], refusal: Refusal, record: u64)
-    ensures { λ _. ⌜ now (row .exit) ≡ refusedRow refusal «record» ⌝ }
-{
-    let told = refusal.row(record);
-    tell(row, told.number as u64, told.value, told.record)
+    words::angle_word(ScanAngle::default())
 }

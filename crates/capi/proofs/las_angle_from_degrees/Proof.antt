@@ -1,5 +1,5 @@
 use mathlib.Core.Path.{sym, ap, _∙_}
-use Rattle.capi.specs.Words.{angleWord}
+use Rattle.words.specs.Words.{angleWord}
 use borrow.Author.Needs.{needs}
 use Rattle.capi.proofs.las_angle_from_degrees.Statement.{statement}
 use Rattle.capi.proofs.las_angle_from_degrees.Tie as tie

@@ -1,5 +1,5 @@
 use mathlib.Core.Path.{sym, ap, _∙_}
-use Rattle.capi.specs.Words.{flagsWord}
+use Rattle.words.specs.Words.{flagsWord}
 use Rattle.flags.specs.Bytes.{clearedOf}
 use borrow.Author.Needs.{needs}
 use Rattle.capi.proofs.las_flags_clear_overlap_class.Statement.{statement}

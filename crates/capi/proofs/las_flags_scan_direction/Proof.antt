@@ -2,7 +2,7 @@
 use mathlib.Core.Path.{sym, ap, _∙_}
 use borrow.Author.Needs.{needs}
 use Rattle.flags.specs.Readings.{directionOf}
-use Rattle.capi.specs.Words.{directionWord}
+use Rattle.words.specs.Words.{directionWord}
 use Rattle.capi.proofs.las_flags_scan_direction.Statement.{statement}
 use Rattle.capi.proofs.las_flags_scan_direction.Tie as tie
 

@@ -1,5 +1,5 @@
 use mathlib.Core.Path.{sym, ap, _∙_}
-use Rattle.capi.specs.Words.{threeWord}
+use Rattle.words.specs.Words.{threeWord}
 use Rattle.flags.specs.Bytes.{threeBytesOf}
 use borrow.Author.Needs.{needs}
 use Rattle.capi.proofs.las_flags_to_three_bytes.Statement.{statement}

@@ -1,5 +1,5 @@
 use mathlib.Core.Path.{sym, ap, _∙_}
-use Rattle.capi.specs.Words.{formatWord}
+use Rattle.words.specs.Words.{formatWord}
 use Rattle.format.specs.Format.{extendedOf}
 use borrow.Author.Needs.{needs}
 use Rattle.capi.proofs.las_format_extend.Statement.{statement}

@@ -3,10 +3,10 @@ use mathlib.Core.Path.{sym, ap, _∙_}
 use mir.Syntax.{w8, w16}
 use mir.Val.{ofZ}
 use Rattle.le.proofs.Twos.{kept}
-use Rattle.capi.specs.Words.{angleWord}
+use Rattle.words.specs.Words.{angleWord}
 use borrow.Author.Needs.{needs}
-use Rattle.capi.proofs.angle_word.Statement.{statement}
-use Rattle.capi.proofs.angle_word.Tie as tie
+use Rattle.words.proofs.angle_word.Statement.{statement}
+use Rattle.words.proofs.angle_word.Tie as tie
 
 returns : tie.Need-returns
 returns c = c .bits8 .ensures ∙ ap (ofZ w8) (kept w8 (c .before .before .angle .given .0 .0) (c .before .known-told .given .0 .1)) ∙ sym (ap angleWord (c .before .before .angle .given .1))

@@ -1,8 +1,8 @@
 use mathlib.Core.Path.{sym, ap, _∙_}
-use Rattle.capi.specs.Words.{flagsWord}
+use Rattle.words.specs.Words.{flagsWord}
 use borrow.Author.Needs.{needs}
-use Rattle.capi.proofs.flags_word.Statement.{statement}
-use Rattle.capi.proofs.flags_word.Tie as tie
+use Rattle.words.proofs.flags_word.Statement.{statement}
+use Rattle.words.proofs.flags_word.Tie as tie
 
 returns : tie.Need-returns
 returns c = c .packed .ensures ∙ sym (ap flagsWord (c .before .before .flags .given .1))

@@ -1,7 +1,7 @@
 use borrow.Author.Needs.{needs}
 use Rattle.refusal.specs.Table.{rowOf}
-use Rattle.capi.proofs.refuse.Statement.{statement}
-use Rattle.capi.proofs.refuse.Tie as tie
+use Rattle.words.proofs.refuse.Statement.{statement}
+use Rattle.words.proofs.refuse.Tie as tie
 
 returns : tie.Need-returns
 unfolding rowOf

@@ -1,8 +1,8 @@
 use native.Mathlib.Omega.{arith}
-use Rattle.capi.specs.Words.{formatWord}
+use Rattle.words.specs.Words.{formatWord}
 use borrow.Author.Needs.{needs}
-use Rattle.capi.proofs.format_word.Statement.{statement}
-use Rattle.capi.proofs.format_word.Tie as tie
+use Rattle.words.proofs.format_word.Statement.{statement}
+use Rattle.words.proofs.format_word.Tie as tie
 
 returns : tie.Need-returns
 unfolding formatWord

@@ -1,10 +1,10 @@
 use mir.Syntax.{w8, w16}
 use Rattle.le.proofs.Twos.{kept}
 use Rattle.refusal.proofs.Tests.{tests}
-use Rattle.capi.specs.Words.{angleOf}
+use Rattle.words.specs.Words.{angleOf}
 use borrow.Author.Needs.{needs}
-use Rattle.capi.proofs.angle_of.Statement.{statement}
-use Rattle.capi.proofs.angle_of.Tie as tie
+use Rattle.words.proofs.angle_of.Statement.{statement}
+use Rattle.words.proofs.angle_of.Tie as tie
 
 returns : tie.Need-returns
 unfolding angleOf

@@ -1,8 +1,8 @@
 use Rattle.refusal.proofs.Tests.{tests}
-use Rattle.capi.specs.Words.{flagsOf}
+use Rattle.words.specs.Words.{flagsOf}
 use borrow.Author.Needs.{needs}
-use Rattle.capi.proofs.flags_of.Statement.{statement}
-use Rattle.capi.proofs.flags_of.Tie as tie
+use Rattle.words.proofs.flags_of.Statement.{statement}
+use Rattle.words.proofs.flags_of.Tie as tie
 
 returns : tie.Need-returns
 unfolding flagsOf

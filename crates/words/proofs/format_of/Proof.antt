@@ -1,7 +1,7 @@
-use Rattle.capi.specs.Words.{formatOfWord}
+use Rattle.words.specs.Words.{formatOfWord}
 use borrow.Author.Needs.{needs}
-use Rattle.capi.proofs.format_of.Statement.{statement}
-use Rattle.capi.proofs.format_of.Tie as tie
+use Rattle.words.proofs.format_of.Statement.{statement}
+use Rattle.words.proofs.format_of.Tie as tie
 
 returns : tie.Need-returns
 unfolding formatOfWord
