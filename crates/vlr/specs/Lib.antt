@@ -1,0 +1,5 @@
+pub mod Cut
+pub mod Layout
+pub mod Table
+pub mod Vlr
+pub mod Laws
