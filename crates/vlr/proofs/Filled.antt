@@ -1,7 +1,7 @@
 -- One law over the count: an array of n bytes, once a part of n bytes is written to it, is that part.
 use Prim.Native.Nat.{ℕ, _+_, _-_, _≤_}
 use mathlib.Core.Path.{_≡_, ap, _∙_}
-use mathlib.Core.List.{List, _++_, append-nil}
+use mathlib.Core.List.{List, append-nil}
 use native.Mathlib.Nat.{add-sub-cancel-left, le-of-eq}
 use native.Mathlib.Omega.{arith}
 use lib.ListN.{length, drop, replicate, length-drop, length-replicate, drop-of-length-le}

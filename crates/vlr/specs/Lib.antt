@@ -3,3 +3,4 @@ pub mod Layout
 pub mod Table
 pub mod Vlr
 pub mod Laws
+pub mod Theorems

@@ -1,8 +1,8 @@
 -- What the table of Layout adds up to.
-use Prim.Native.Nat.{ℕ, _+_, _≤_}
+use Prim.Native.Nat.{_+_, _≤_}
 use mathlib.Core.Path.{_≡_, refl}
 use mathlib.Core.Bool.{Bool, true, false}
-use mathlib.Core.List.{List, map}
+use mathlib.Core.List.{map}
 use native.Mathlib.Omega.{arith}
 use Rattle.vlr.specs.Cut.{starts, total}
 use Rattle.vlr.specs.Layout.{Description, fields, width, place, headSize}
