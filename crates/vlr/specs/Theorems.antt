@@ -12,8 +12,9 @@ use Rattle.vlr.specs.declared.Vlr.{Vlr}
 use Rattle.vlr.specs.declared.Extent.the-variants.{Bytes}
 use Rattle.vlr.specs.Cut.{part}
 use Rattle.vlr.specs.Layout.{headSize}
-use Rattle.vlr.specs.Vlr.{valueOf, isExtended, lengthOf, vlrOf, readOf, dataOf, headBytes, writtenOf}
-use Rattle.vlr.specs.Laws.{Typed, read-accepted, read-whole, length-data, record-back, typed, again, kind-read}
+use Rattle.vlr.specs.Vlr.{dataLength, isEvlr, lengthOf, vlrOf, readOf, dataOf, headBytes, writtenOf, Typed}
+use Rattle.vlr.specs.Laws.{read-accepted, read-whole, length-data}
+use Rattle.vlr.specs.Heads.{kind-read, record-back, typed, again}
 
 -- "Written back, it has the same bytes": what is read of a record and of its data, written, is the bytes that were read.
 pub written-back : (extended : Bool) (s d : List ℕ) {n : ℕ} → IsBytes s → readOf extended s .answer ≡ Bytes n → writtenOf (readOf extended s .vlr) (dataOf extended s) d ≡ frontOf (take n s) d
@@ -24,18 +25,18 @@ written-back extended s d {n} b p =
     rw (r .0, r .1, eq-eqb _ _ (length-data extended s n w)) (ap (λ (bs : List ℕ). frontOf bs d) (record-back extended s n b w))
 
 -- What is written is read again, the record and its data, whatever follows it.
-pub read-again : (v : Vlr) (content rest : List ℕ) → Typed v → length content ≡ valueOf (v .«record_length_after_header»)
-    → let extended = isExtended (v .«record_length_after_header») in
+pub read-again : (v : Vlr) (content rest : List ℕ) → Typed v → length content ≡ dataLength (v .«record_length_after_header»)
+    → let extended = isEvlr v in
     let s = (headBytes v ++ content) ++ rest in
     (readOf extended s ≡ record { answer = Bytes (length (headBytes v ++ content)); vlr = v }) × (dataOf extended s ≡ content)
-read-again v content rest w l = again (isExtended (v .«record_length_after_header»)) v content rest _ refl w l refl
+read-again v content rest w l = again (isEvlr v) v content rest _ refl w l refl
 
 -- The reader never looks past the record: bytes that agree on it are read alike.
 pub never-past : (extended : Bool) (s t : List ℕ) {n : ℕ} → IsBytes s → readOf extended s .answer ≡ Bytes n → take n t ≡ take n s → (readOf extended t ≡ readOf extended s) × (dataOf extended t ≡ dataOf extended s)
 unfolding vlrOf
 never-past extended s t {n} b p e =
     let w = read-accepted extended s p in
-    let content = part (valueOf (lengthOf extended s)) (headSize extended) s in
+    let content = part (dataLength (lengthOf extended s)) (headSize extended) s in
     let alike : (x : List ℕ) → take n x ≡ take n s → (readOf extended x ≡ record { answer = Bytes (length (headBytes (vlrOf extended s) ++ content)); vlr = vlrOf extended s }) × (dataOf extended x ≡ content) =
     λ x q. again extended (vlrOf extended s) content (drop n x) x (kind-read extended s) (typed extended s b (omega arith)) (length-data extended s n w)
     (sym (take-append-drop n x) ∙ ap (λ (l : List ℕ). l ++ drop n x) (q ∙ sym (record-back extended s n b w))) in

@@ -1,10 +1,9 @@
 -- What reading and writing a VLR or an EVLR answers, from the table of Layout and document 01.
-use Prim.Native.Nat.{ℕ, _+_, _^_}
+use Prim.Native.Nat.{ℕ, _+_, _^_, _<_}
 use mathlib.Core.Path.{_≡_}
 use mathlib.Core.Bool.{Bool, true, false, cond}
 use mathlib.Core.List.{List, [], _++_}
 use lib.ListN.{length, replicate}
-use lib.Seq.{sets}
 use lib.Dec.{ltb, eqb}
 use Rattle.le.specs.Le.{num, bytes}
 use Rattle.refusal.specs.declared.Refusal.the-variants.{Short, VlrDataLength}
@@ -20,14 +19,17 @@ use Rattle.vlr.specs.declared.VlrRead.{VlrRead}
 use Rattle.vlr.specs.Cut.{joined, part}
 use Rattle.vlr.specs.Layout.{Field, Reserved, UserId, RecordId, LengthAfterHeader, Description, fields, width, place, headSize}
 
--- how many bytes of data a length states, and whether it is an EVLR's
-abbrev pub valueOf : RecordLength → ℕ
-valueOf (kind.Vlr n) = n
-valueOf (kind.Evlr n) = n
+-- how many bytes of data a length states; whether it is an EVLR's, and whether a record is one
+abbrev pub dataLength : RecordLength → ℕ
+dataLength (kind.Vlr n) = n
+dataLength (kind.Evlr n) = n
 
 abbrev pub isExtended : RecordLength → Bool
 isExtended (kind.Vlr n) = false
 isExtended (kind.Evlr n) = true
+
+abbrev pub isEvlr : Vlr → Bool
+isEvlr v = isExtended (v .«record_length_after_header»)
 
 -- the number, or the bytes, that s has in the place of a field
 abbrev pub numberIn : Bool → Field → List ℕ → ℕ
@@ -57,15 +59,15 @@ unfoldable pub noVlr : Vlr
 noVlr =
     record {
       reserved = 0;
-      «user_id» = replicate 16 0;
+      «user_id» = replicate (width false UserId) 0;
       «record_id» = 0;
       «record_length_after_header» = kind.Vlr 0;
-      description = replicate 32 0;
+      description = replicate (width false Description) 0;
     }
 
 -- the bytes of the record at the start of s, head and data
 unfoldable pub recordSize : Bool → List ℕ → ℕ
-recordSize extended s = headSize extended + valueOf (lengthOf extended s)
+recordSize extended s = headSize extended + dataLength (lengthOf extended s)
 
 -- "bytes wanted in all, 0 if over 2^64-1"
 unfoldable pub wanted : ℕ → ℕ
@@ -79,26 +81,26 @@ extentOf extended s =
     (extent.Bytes (recordSize extended s)))
 
 -- the first where the record is all there, the second where it is refused
-abbrev pub whole : {A : Type 0} → Extent → A → A → A
-whole (extent.Bytes n) x y = x
-whole (extent.Refused r) x y = y
+abbrev pub whenWhole : {A : Type 0} → Extent → A → A → A
+whenWhole (extent.Bytes n) x y = x
+whenWhole (extent.Refused r) x y = y
 
 unfoldable pub readOf : Bool → List ℕ → VlrRead
-readOf extended s = record { answer = extentOf extended s; vlr = whole (extentOf extended s) (vlrOf extended s) noVlr }
+readOf extended s = record { answer = extentOf extended s; vlr = whenWhole (extentOf extended s) (vlrOf extended s) noVlr }
 
 -- "The data is shown as that part of the caller's bytes", "empty on refusal"
 unfoldable pub dataOf : Bool → List ℕ → List ℕ
-dataOf extended s = whole (extentOf extended s) (part (valueOf (lengthOf extended s)) (headSize extended) s) []
+dataOf extended s = whenWhole (extentOf extended s) (part (dataLength (lengthOf extended s)) (headSize extended) s) []
 
 -- the bytes of a length
 abbrev pub lengthBytes : RecordLength → List ℕ
-lengthBytes n = bytes (width (isExtended n) LengthAfterHeader) (valueOf n)
+lengthBytes n = bytes (width (isExtended n) LengthAfterHeader) (dataLength n)
 
 -- the bytes of a field of v
 abbrev pub fieldBytes : Vlr → Field → List ℕ
-fieldBytes v Reserved = bytes (width (isExtended (v .«record_length_after_header»)) Reserved) (v .reserved)
+fieldBytes v Reserved = bytes (width (isEvlr v) Reserved) (v .reserved)
 fieldBytes v UserId = v .«user_id»
-fieldBytes v RecordId = bytes (width (isExtended (v .«record_length_after_header»)) RecordId) (v .«record_id»)
+fieldBytes v RecordId = bytes (width (isEvlr v) RecordId) (v .«record_id»)
 fieldBytes v LengthAfterHeader = lengthBytes (v .«record_length_after_header»)
 fieldBytes v Description = v .description
 
@@ -109,10 +111,13 @@ headBytes v = joined (fieldBytes v) fields
 -- refusal 24 where the data has not the stated length; else the head and the data go to the front of d, or refusal 22
 unfoldable pub writtenOf : Vlr → List ℕ → List ℕ → Wrote × List ℕ
 writtenOf v content d =
-    let stated = valueOf (v .«record_length_after_header») in
+    let stated = dataLength (v .«record_length_after_header») in
     cond (eqb (length content) stated) (frontOf (headBytes v ++ content) d) (wrote.Refused (VlrDataLength stated), d)
 
--- the bytes bs written into d from `at` on, which gave d′; they end at r
-pub record Put (at : ℕ) (bs d : List ℕ) (r : ℕ) (d′ : List ℕ) : Type 0 where
-  pub ends : r ≡ at + length bs
-  pub holds : d′ ≡ sets d at bs
+-- what the Rust's types say of a record: numbers in their widths, arrays of their lengths
+pub record Typed (v : Vlr) : Type 0 where
+  pub reserved : v .reserved < 256 ^ width (isEvlr v) Reserved
+  pub user-id : length (v .«user_id») ≡ width (isEvlr v) UserId
+  pub record-id : v .«record_id» < 256 ^ width (isEvlr v) RecordId
+  pub stated : dataLength (v .«record_length_after_header») < 256 ^ width (isEvlr v) LengthAfterHeader
+  pub description : length (v .description) ≡ width (isEvlr v) Description

@@ -4,9 +4,12 @@ ghost use mathlib.Core.Path.{_≡_};
 ghost use Prim.Native.Nat.{_+_, _≤_};
 ghost use lib.ListN.{length};
 ghost use Rattle.vlr.specs.declared.RecordLength.the-variants as kind;
+ghost use Rattle.refusal.specs.declared.Refusal.the-variants.{Short};
+ghost use Rattle.vlr.specs.declared.Extent.the-variants as extent;
 ghost use Rattle.vlr.specs.Cut.{total, part};
 ghost use Rattle.vlr.specs.Layout.{Description, fields, place, headSize};
-ghost use Rattle.vlr.specs.Vlr.{Put, valueOf, isExtended, lengthOf, vlrOf, noVlr, wanted, extentOf, readOf, dataOf, lengthBytes, fieldBytes, headBytes, writtenOf};
+ghost use Rattle.vlr.specs.Put.{Put};
+ghost use Rattle.vlr.specs.Vlr.{dataLength, isExtended, lengthOf, vlrOf, noVlr, wanted, extentOf, readOf, dataOf, lengthBytes, fieldBytes, headBytes, writtenOf};
 use lent::Wrote;
 use refusal::Refusal;
 
@@ -39,7 +42,7 @@ pub struct VlrRead {
 impl RecordLength {
     // The length as a number.
     pub fn to_u64(self) -> u64
-        ensures { λ r. ⌜ r ≡ valueOf self ⌝ }
+        ensures { λ r. ⌜ r ≡ dataLength self ⌝ }
     {
         match self {
             RecordLength::Vlr(n) => n as u64,
@@ -48,7 +51,7 @@ impl RecordLength {
     }
 
     // Whether it is the length of an EVLR.
-    pub fn is_extended(self) -> bool
+    fn is_extended(self) -> bool
         ensures { λ r. ⌜ r ≡ isExtended self ⌝ }
     {
         match self {
@@ -146,13 +149,20 @@ fn measure(s: &[u8], extended: bool) -> Extent
 {
     let head = head_size(extended);
     if s.len() < head {
-        return Extent::Refused(Refusal::Short(head as u64));
+        return short(head as u64);
     }
     let length = stated(s, extended).to_u64();
     if ((s.len() - head) as u64) < length {
-        return Extent::Refused(Refusal::Short(sum(head as u64, length)));
+        return short(sum(head as u64, length));
     }
     Extent::Bytes(head + length as usize)
+}
+
+// Refusal 1, with the bytes wanted in all.
+fn short(wanted: u64) -> Extent
+    ensures { λ r. ⌜ r ≡ extent.Refused (Short wanted) ⌝ }
+{
+    Extent::Refused(Refusal::Short(wanted))
 }
 
 // The bytes of a head.

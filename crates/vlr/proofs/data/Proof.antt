@@ -3,7 +3,7 @@ use Prim.Native.Nat.{_-_}
 use mathlib.Core.Path.{_≡_, sym, _∙_}
 use borrow.Author.Needs.{needs}
 use native.Mathlib.Omega.{arith}
-use Rattle.vlr.specs.Vlr.{valueOf, lengthOf, dataOf}
+use Rattle.vlr.specs.Vlr.{dataLength, lengthOf, dataOf}
 use Rattle.vlr.specs.Laws.{Whole, accepted}
 use Rattle.vlr.proofs.data.Statement.{statement}
 use Rattle.vlr.proofs.data.Tie as tie
@@ -25,7 +25,7 @@ returns-2 c =
     let m = e .before .before in
     let a = m .before .before .args in
     let w = is-whole h in
-    let n : e .«end» .given .0 .0 - h .head-size .result ≡ valueOf (lengthOf (a .extended) (a .s .now)) = omega arith in
+    let n : e .«end» .given .0 .0 - h .head-size .result ≡ dataLength (lengthOf (a .extended) (a .s .now)) = omega arith in
     rw (← (m .measure .ensures), e .«end» .given .1, n, h .head-size .ensures)
 
 pub data-spec : {M : Type 1} → statement M

@@ -1,7 +1,7 @@
 use borrow.Author.Needs.{needs}
 use native.Mathlib.Omega.{arith}
 use Rattle.vlr.specs.Vlr.{vlrOf}
-use Rattle.vlr.specs.Table.{head-sizes, description-last}
+use Rattle.vlr.specs.Places.{head-sizes, description-last}
 use Rattle.vlr.proofs.head.Statement.{statement}
 use Rattle.vlr.proofs.head.Tie as tie
 

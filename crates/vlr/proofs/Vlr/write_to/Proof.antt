@@ -7,7 +7,7 @@ use native.Mathlib.Omega.{arith}
 use lib.ListN.{length, length-append}
 use Rattle.vlr.specs.Cut.{length-joined}
 use Rattle.vlr.specs.Layout.{fields}
-use Rattle.vlr.specs.Table.{head-at-most}
+use Rattle.vlr.specs.Places.{head-at-most}
 use Rattle.vlr.specs.Vlr.{fieldBytes, headBytes, writtenOf}
 use Rattle.vlr.specs.Laws.{length-head}
 use Rattle.vlr.proofs.Pieces.{followed, in-front, no-room}
@@ -23,7 +23,9 @@ head c =
 
 returns : tie.Need-returns
 unfolding writtenOf
-returns c = rw (← (c .before .to-u64 .ensures), ne-eqb _ _ (c .if1 .taken))
+returns c =
+    let t = c .before in
+    rw (← (t .to-u64 .ensures), ne-eqb (length (t .before .before .before .args .«data» .now)) (t .to-u64 .result) (λ e. omega arith))
 
 add-size : tie.Need-add-size
 add-size c = omega (arith, head-at-most (c .before .is-extended .result))
@@ -37,7 +39,7 @@ returns-2 c =
     let h = c .before in
     let t = h .before .before in
     let a = t .before .before .before .before .args in
-    rw (← (t .before .to-u64 .ensures), eq-eqb _ _ (t .if1 .left)) (no-room (headBytes (a .self) ++ a .«data» .now) (a .dst .now) (size h) (c .if2 .taken))
+    rw (← (t .before .to-u64 .ensures), eq-eqb (length (a .«data» .now)) (t .before .to-u64 .result) (omega arith)) (no-room (headBytes (a .self) ++ a .«data» .now) (a .dst .now) (size h) (c .if2 .taken))
 
 put-head-requires : tie.Need-put-head-requires
 unfolding headBytes
@@ -57,7 +59,7 @@ returns-3 c =
     let h = p .before .before .before in
     let t = h .before .before in
     let a = t .before .before .before .before .args in
-    rw (← (t .before .to-u64 .ensures), eq-eqb _ _ (t .if1 .left))
+    rw (← (t .before .to-u64 .ensures), eq-eqb (length (a .«data» .now)) (t .before .to-u64 .result) (omega arith))
     (in-front (headBytes (a .self) ++ a .«data» .now) (a .dst .now) (size h) (p .before .before .if2 .left) (followed (p .put-head .ensures) (w .put-at .ensures)))
 
 pub write-to-spec : {M : Type 1} → statement M
