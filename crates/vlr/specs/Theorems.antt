@@ -1,4 +1,4 @@
--- What the definitions of Vlr add up to.
+-- What the definitions of Vlr add up to; Places has what the table of Layout does.
 use Prim.Native.Nat.{ℕ}
 use mathlib.Core.Path.{_≡_, refl, ap, sym, _∙_}
 use mathlib.Core.Bool.{Bool}
@@ -7,16 +7,17 @@ use native.Mathlib.Omega.{arith}
 use borrow.Author.Tests.{eq-eqb}
 use lib.ListN.{length, take, drop, take-append-drop}
 use Rattle.le.specs.Le.{Bytes as IsBytes}
+use Rattle.lent.specs.declared.Wrote.the-variants as wrote
 use Rattle.lent.specs.Front.{frontOf}
 use Rattle.vlr.specs.declared.Vlr.{Vlr}
 use Rattle.vlr.specs.declared.Extent.the-variants.{Bytes}
 use Rattle.vlr.specs.Cut.{part}
 use Rattle.vlr.specs.Layout.{headSize}
 use Rattle.vlr.specs.Vlr.{dataLength, isEvlr, lengthOf, vlrOf, readOf, dataOf, headBytes, writtenOf, Typed}
-use Rattle.vlr.specs.Laws.{read-accepted, read-whole, length-data}
+use Rattle.vlr.specs.Laws.{read-accepted, read-whole, length-data, written}
 use Rattle.vlr.specs.Heads.{kind-read, record-back, typed, again}
 
--- "Written back, it has the same bytes": what is read of a record and of its data, written, is the bytes that were read.
+-- "Written back, it has the same bytes" (the mission, 2): what is read of a record and of its data, written, is the bytes that were read.
 pub written-back : (extended : Bool) (s d : List ℕ) {n : ℕ} → IsBytes s → readOf extended s .answer ≡ Bytes n → writtenOf (readOf extended s .vlr) (dataOf extended s) d ≡ frontOf (take n s) d
 unfolding writtenOf vlrOf
 written-back extended s d {n} b p =
@@ -24,14 +25,13 @@ written-back extended s d {n} b p =
     let r = read-whole extended s n w in
     rw (r .0, r .1, eq-eqb _ _ (length-data extended s n w)) (ap (λ (bs : List ℕ). frontOf bs d) (record-back extended s n b w))
 
--- What is written is read again, the record and its data, whatever follows it.
-pub read-again : (v : Vlr) (content rest : List ℕ) → Typed v → length content ≡ dataLength (v .«record_length_after_header»)
-    → let extended = isEvlr v in
-    let s = (headBytes v ++ content) ++ rest in
-    (readOf extended s ≡ record { answer = Bytes (length (headBytes v ++ content)); vlr = v }) × (dataOf extended s ≡ content)
-read-again v content rest w l = again (isEvlr v) v content rest _ refl w l refl
+-- "Writes answer their byte count and leave what lies past it": what is left, read again, is the record and its data.
+pub read-again : (v : Vlr) (content d d′ : List ℕ) {n : ℕ} → Typed v → writtenOf v content d ≡ (wrote.Bytes n, d′) → (readOf (isEvlr v) d′ ≡ record { answer = Bytes n; vlr = v }) × (dataOf (isEvlr v) d′ ≡ content)
+read-again v content d d′ w p =
+    let q = written v content d d′ p in
+    rw (q .size) (again (isEvlr v) v content (drop (length (headBytes v ++ content)) d) d′ refl w (q .stated) (q .left))
 
--- The reader never looks past the record: bytes that agree on it are read alike.
+-- "The data is shown as that part of the caller's bytes": bytes that agree on the record are read alike, whatever lies past it.
 pub never-past : (extended : Bool) (s t : List ℕ) {n : ℕ} → IsBytes s → readOf extended s .answer ≡ Bytes n → take n t ≡ take n s → (readOf extended t ≡ readOf extended s) × (dataOf extended t ≡ dataOf extended s)
 unfolding vlrOf
 never-past extended s t {n} b p e =

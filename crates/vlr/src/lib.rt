@@ -3,8 +3,8 @@
 ghost use mathlib.Core.Path.{_≡_};
 ghost use Prim.Native.Nat.{_+_, _≤_};
 ghost use lib.ListN.{length};
-ghost use Rattle.vlr.specs.declared.RecordLength.the-variants as kind;
 ghost use Rattle.refusal.specs.declared.Refusal.the-variants.{Short};
+ghost use Rattle.vlr.specs.declared.RecordLength.the-variants as kind;
 ghost use Rattle.vlr.specs.declared.Extent.the-variants as extent;
 ghost use Rattle.vlr.specs.Cut.{total, part};
 ghost use Rattle.vlr.specs.Layout.{Description, fields, place, headSize};

@@ -26,7 +26,7 @@ returns-2 c =
     let a = m .before .before .args in
     let w = is-whole h in
     let n : e .«end» .given .0 .0 - h .head-size .result ≡ dataLength (lengthOf (a .extended) (a .s .now)) = omega arith in
-    rw (← (m .measure .ensures), e .«end» .given .1, n, h .head-size .ensures)
+    rw (← (m .measure .ensures), e .«end» .given .1) (cc n)
 
 pub data-spec : {M : Type 1} → statement M
 data-spec =

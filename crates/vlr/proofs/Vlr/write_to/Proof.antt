@@ -27,9 +27,6 @@ returns c =
     let t = c .before in
     rw (← (t .to-u64 .ensures), ne-eqb (length (t .before .before .before .args .«data» .now)) (t .to-u64 .result) (λ e. omega arith))
 
-add-size : tie.Need-add-size
-add-size c = omega (arith, head-at-most (c .before .is-extended .result))
-
 size : (c : tie.After-head-size) → c .head-size .result + length (c .before .before .before .before .before .before .args .«data» .now) ≡ length (headBytes (c .before .before .before .before .before .before .args .self) ++ c .before .before .before .before .before .before .args .«data» .now)
 size c = rw (head c, length-append)
 
@@ -48,9 +45,6 @@ put-head-requires c κs =
     let v = h .before .before .before .before .before .before .args .self in
     rw (← (length-joined (fieldBytes v) fields)) (omega (arith, head h))
 
-put-at-requires : tie.Need-put-at-requires
-put-at-requires c κs = omega (arith, head (c .before .before .before .before .before .before))
-
 returns-3 : tie.Need-returns-3
 unfolding writtenOf
 returns-3 c =
@@ -66,5 +60,6 @@ pub write-to-spec : {M : Type 1} → statement M
 write-to-spec =
     tie.close
     (tie.spec
-    (λ c κs. search needs) returns (λ c κs. search needs) (λ c κs. search needs) add-size returns-2
-    put-head-requires put-at-requires (λ c. search needs) returns-3)
+    (λ c κs. search needs) returns (λ c κs. search needs) (λ c κs. search needs)
+    (λ c. omega (arith, head-at-most (c .before .is-extended .result))) returns-2 put-head-requires
+    (λ c κs. omega (arith, head (c .before .before .before .before .before .before))) (λ c. search needs) returns-3)
