@@ -1,12 +1,12 @@
 use Prim.Native.Nat.{_+_}
-use mathlib.Core.Path.{_≡_}
+use mathlib.Core.Path.{_≡_, ap, sym, _∙_}
 use mathlib.Core.List.{_++_}
 use borrow.Author.Needs.{needs}
 use borrow.Author.Tests.{eq-eqb, ne-eqb}
 use native.Mathlib.Omega.{arith}
 use lib.ListN.{length, length-append}
 use Rattle.vlr.specs.Cut.{length-joined}
-use Rattle.vlr.specs.Layout.{fields}
+use Rattle.vlr.specs.Layout.{fields, headSize}
 use Rattle.vlr.specs.Places.{head-at-most}
 use Rattle.vlr.specs.Vlr.{fieldBytes, headBytes, writtenOf}
 use Rattle.vlr.specs.Laws.{length-head}
@@ -19,7 +19,7 @@ head c =
     let v = c .before .before .before .before .before .before .args .self in
     let u : length (v .«user_id») ≡ 16 = search needs in
     let d : length (v .description) ≡ 32 = search needs in
-    cc (length-head v u d)
+    c .head-size .ensures ∙ ap headSize (c .before .is-extended .ensures) ∙ sym (length-head v u d)
 
 returns : tie.Need-returns
 unfolding writtenOf
