@@ -1,0 +1,15 @@
+use borrow.Author.Needs.{needs}
+use Rattle.vlr.proofs.Filled.{filled}
+use Rattle.vlr.proofs.array16.Statement.{statement}
+use Rattle.vlr.proofs.array16.Tie as tie
+
+returns : tie.Need-returns
+returns c =
+    let b = c .before in
+    let a = b .before .before .before .before in
+    filled 16 (a .args .at) (a .args .s .now) (b .put .last .0) (b .put .result) (a .pre) (b .put .ensures)
+
+pub array16-spec : {M : Type 1} → statement M
+array16-spec =
+    tie.close
+    (tie.spec (λ c. search needs) (λ c. search needs) (λ c. search needs) (λ c. search needs) (λ c. search needs) (λ c κs. search needs) returns)
