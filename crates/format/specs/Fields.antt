@@ -16,12 +16,13 @@ abbrev pub only : Bool → Field → List Field
 only true x = x ∷ []
 only false x = []
 
--- "X, Y, Z, intensity, flags, angle and user data (old: angle first; extended: user data first), source id, then what the format has of time, colour, NIR, waveform, then extra bytes"
+-- what the format has after the source id
 abbrev pub restOf : Format → List Field
 restOf f =
     only (f .«has_gps_time») GpsTime
     ++ (only (f .«has_color») Color ++ (only (f .«has_nir») Nir ++ (only (f .«has_waveform») Waveform ++ (ExtraBytes ∷ []))))
 
+-- "X, Y, Z, intensity, flags, angle and user data (old: angle first; extended: user data first), source id, then what the format has of time, colour, NIR, waveform, then extra bytes"
 unfoldable pub fieldsOf : Format → List Field
 fieldsOf f =
     X ∷ Y ∷ Z ∷ Intensity ∷ Flags ∷

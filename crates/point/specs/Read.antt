@@ -3,6 +3,7 @@ use Prim.Native.Nat.{ℕ, _+_}
 use mathlib.Core.Bool.{Bool, cond}
 use mathlib.Core.List.{List, []}
 use lib.Dec.{ltb, eqb}
+use lib.IntN.{pos}
 use lib.ListN.{length, take, drop}
 use mir.Syntax.{w8, w16, w32}
 use mir.Val.{toZ}
@@ -124,3 +125,21 @@ extraAfter f s (len.Refused r) = []
 
 unfoldable pub extraOf : Format → List ℕ → List ℕ
 extraOf f s = extraAfter f s (lenOf f)
+
+-- what the Rust's `Default` gives
+unfoldable pub noPoint : Point
+noPoint =
+    record {
+      x = pos 0;
+      y = pos 0;
+      z = pos 0;
+      intensity = 0;
+      flags = TwoByte 0 0;
+      «scan_angle» = Rank (pos 0);
+      «user_data» = 0;
+      «point_source_id» = 0;
+      «gps_time» = some-time.None;
+      color = some-color.None;
+      waveform = some-waveform.None;
+      nir = some-nir.None;
+    }

@@ -6,7 +6,7 @@ ghost use Prim.Native.Nat.{_≤_};
 ghost use lib.Dec.{ltb};
 ghost use lib.ListN.{length};
 ghost use Rattle.format.specs.Fields.{recordBytes};
-ghost use Rattle.point.specs.Read.{fieldOf, flagsAt, angleAt, timeAt, colorAt, nirOf, nirAt, waveformAt, maybeWaveformAt, pointOf, sizedOf, readOf, extraOf};
+ghost use Rattle.point.specs.Read.{fieldOf, flagsAt, angleAt, timeAt, colorAt, nirOf, nirAt, waveformAt, maybeWaveformAt, pointOf, sizedOf, readOf, extraOf, noPoint};
 use angle::ScanAngle;
 use flags::Flags;
 use format::Field;
@@ -91,6 +91,26 @@ impl Point {
         match format.len() {
             FormatLen::Is(n) => read_sized(s, format, n as usize),
             FormatLen::Refused(refusal) => PointRead::Refused(refusal),
+        }
+    }
+
+    // All zero, with two-byte flags and a rank, and nothing that may be missing.
+    pub fn default() -> Point
+        ensures { λ r. ⌜ r ≡ noPoint ⌝ }
+    {
+        Point {
+            x: 0,
+            y: 0,
+            z: 0,
+            intensity: 0,
+            flags: Flags::default(),
+            scan_angle: ScanAngle::default(),
+            user_data: 0,
+            point_source_id: 0,
+            gps_time: MaybeTime::None,
+            color: MaybeColor::None,
+            waveform: MaybeWaveform::None,
+            nir: MaybeNir::None,
         }
     }
 }
