@@ -1,0 +1,108 @@
+// VLRs and EVLRs for C and Rust. A record's head crosses the boundary as three numbers, its reserved number, its record id
+// and the length that it states, and beside them its user id and its description. Of a number wider than its field the low
+// bits count. Rows are those of the crate words.
+ghost use mathlib.Core.Path.{_≡_};
+ghost use Rattle.vlr.specs.Layout.{headSize};
+ghost use Rattle.vlr.specs.Vlr.{readOf, writtenOf};
+ghost use Rattle.capi_vlr.specs.Rows.{numbersOf, readRow, dataPart, lengthFrom, vlrFrom, writtenRow};
+use lent::Wrote;
+use vlr::Extent;
+use vlr::RecordLength;
+use vlr::Vlr;
+
+// The head of the record at the start of s; the row's value is the bytes of the record, head and data. Where it is refused
+// the numbers, the user id and the description stay as they were.
+#[no_mangle]
+pub extern "C" fn las_vlr_read(
+    s: &[u8],
+    extended: bool,
+    row: &mut [u64; 3],
+    numbers: &mut [u64; 3],
+    user_id: &mut [u8; 16],
+    description: &mut [u8; 32],
+)
+    ensures { λ _. ⌜ (now (row .exit), now (numbers .exit), now («user_id» .exit), now (description .exit)) ≡ readRow (readOf extended (now (s .entry))) (now (numbers .entry)) (now («user_id» .entry)) (now (description .entry)) ⌝ }
+{
+    let read = Vlr::read_from(s, extended);
+    let answer = read.answer;
+    match answer {
+        Extent::Bytes(n) => {
+            let vlr = read.vlr;
+            *numbers = numbers_of(vlr);
+            let user = vlr.user_id;
+            *user_id = user;
+            let described = vlr.description;
+            *description = described;
+            words::tell(row, 0, n as u64, 0)
+        }
+        Extent::Refused(refusal) => words::refuse(row, refusal, 0),
+    }
+}
+
+// Where the record's data starts in s, and how many bytes it has: none where the read is refused.
+#[no_mangle]
+pub extern "C" fn las_vlr_data(s: &[u8], extended: bool, part: &mut [u64; 2])
+    ensures { λ _. ⌜ now (part .exit) ≡ dataPart extended (now (s .entry)) ⌝ }
+{
+    let data = vlr::data(s, extended);
+    *part = [head_size(extended), data.len() as u64];
+}
+
+// Writes the record and its data to the front of dst; the row's value is the count of bytes.
+#[no_mangle]
+pub extern "C" fn las_vlr_write(
+    extended: bool,
+    numbers: &[u64; 3],
+    user_id: &[u8; 16],
+    description: &[u8; 32],
+    data: &[u8],
+    dst: &mut [u8],
+    row: &mut [u64; 3],
+)
+    ensures { λ _. ⌜ (now (row .exit), now (dst .exit)) ≡ writtenRow (writtenOf (vlrFrom extended (now (numbers .entry)) (now («user_id» .entry)) (now (description .entry))) (now («data» .entry)) (now (dst .entry))) ⌝ }
+{
+    let vlr = vlr_from(extended, numbers, user_id, description);
+    match vlr.write_to(data, dst) {
+        Wrote::Bytes(n) => words::tell(row, 0, n as u64, 0),
+        Wrote::Refused(refusal) => words::refuse(row, refusal, 0),
+    }
+}
+
+// The bytes of a head.
+fn head_size(extended: bool) -> u64
+    ensures { λ r. ⌜ r ≡ headSize extended ⌝ }
+{
+    if extended { 60 } else { 54 }
+}
+
+// A record's numbers.
+fn numbers_of(vlr: Vlr) -> [u64; 3]
+    ensures { λ r. ⌜ r ≡ numbersOf vlr ⌝ }
+{
+    let stated = vlr.record_length_after_header;
+    [vlr.reserved as u64, vlr.record_id as u64, stated.to_u64()]
+}
+
+// The record of three numbers, a user id and a description.
+fn vlr_from(extended: bool, n: &[u64; 3], user_id: &[u8; 16], description: &[u8; 32]) -> Vlr
+    ensures { λ r. ⌜ r ≡ vlrFrom extended (now (n .entry)) (now («user_id» .entry)) (now (description .entry)) ⌝ }
+{
+    Vlr {
+        reserved: (n[0] % 65536) as u16,
+        user_id: *user_id,
+        record_id: (n[1] % 65536) as u16,
+        record_length_after_header: length_from(extended, n[2]),
+        description: *description,
+    }
+}
+
+// The stated length: 16 bits in a VLR, 64 in an EVLR.
+fn length_from(extended: bool, n: u64) -> RecordLength
+    ensures { λ r. ⌜ r ≡ lengthFrom extended n ⌝ }
+{
+    if extended {
+        RecordLength::Evlr(n)
+    } else {
+        RecordLength::Vlr((n % 65536) as u16)
+    }
+}
