@@ -13,6 +13,8 @@ use Rattle.header.specs.declared.Header.{Header}
 use Rattle.header.specs.declared.Nans.{Nans}
 use Rattle.header.specs.declared.OptionU64.{OptionU64}
 use Rattle.header.specs.declared.OptionU64.the-variants as start
+use Rattle.header.specs.declared.Evlr.{Evlr}
+use Rattle.header.specs.declared.LargeFile.{LargeFile}
 use Rattle.header.specs.declared.OptionEvlr.{OptionEvlr}
 use Rattle.header.specs.declared.OptionEvlr.the-variants as pair
 use Rattle.header.specs.declared.EndOfPoints.{EndOfPoints}
@@ -122,20 +124,16 @@ startBack (start.Some n) = n
 startBack start.None = 0
 
 -- "none is written as two zeros"
-abbrev pub evlrStartBack : OptionEvlr → ℕ
-evlrStartBack (pair.Some e) = e .«start_of_first_evlr»
-evlrStartBack pair.None = 0
-
-abbrev pub evlrCountBack : OptionEvlr → ℕ
-evlrCountBack (pair.Some e) = e .«number_of_evlrs»
-evlrCountBack pair.None = 0
+abbrev pub evlrBack : OptionEvlr → Evlr
+evlrBack (pair.Some e) = e
+evlrBack pair.None = record { «start_of_first_evlr» = 0; «number_of_evlrs» = 0 }
 
 -- a large file that is missing is written as zeros
-abbrev pub largeCountBack : Header → ℕ
-largeCountBack h = cond (h .«has_large_file») (h .«large_file» .«number_of_point_records») 0
+abbrev pub noLarge : LargeFile
+noLarge = record { «number_of_point_records» = 0; «number_of_points_by_return» = replicate 15 0 }
 
-abbrev pub largeByReturnBack : Header → List ℕ
-largeByReturnBack h = cond (h .«has_large_file») (h .«large_file» .«number_of_points_by_return») (replicate 15 0)
+abbrev pub largeBack : Header → LargeFile
+largeBack h = cond (h .«has_large_file») (h .«large_file») noLarge
 
 -- the bytes of one field
 abbrev pub fieldBytes : Header → Field → List ℕ
@@ -143,8 +141,8 @@ fieldBytes h FileSignature = lasf
 fieldBytes h FileSourceId = bytes (width FileSourceId) (h .«file_source_id»)
 fieldBytes h GlobalEncoding = bytes (width GlobalEncoding) (h .«global_encoding»)
 fieldBytes h Guid = h .guid
-fieldBytes h VersionMajor = bytes (width VersionMajor) (h .version .major)
-fieldBytes h VersionMinor = bytes (width VersionMinor) (h .version .minor)
+fieldBytes h VersionMajor = h .version .major ∷ []
+fieldBytes h VersionMinor = h .version .minor ∷ []
 fieldBytes h SystemIdentifier = h .«system_identifier»
 fieldBytes h GeneratingSoftware = h .«generating_software»
 fieldBytes h FileCreationDayOfYear = bytes (width FileCreationDayOfYear) (h .«file_creation_day_of_year»)
@@ -152,7 +150,7 @@ fieldBytes h FileCreationYear = bytes (width FileCreationYear) (h .«file_creati
 fieldBytes h HeaderSize = bytes (width HeaderSize) (h .«header_size»)
 fieldBytes h OffsetToPointData = bytes (width OffsetToPointData) (h .«offset_to_point_data»)
 fieldBytes h NumberOfVariableLengthRecords = bytes (width NumberOfVariableLengthRecords) (h .«number_of_variable_length_records»)
-fieldBytes h PointDataRecordFormat = bytes (width PointDataRecordFormat) (h .«point_data_record_format»)
+fieldBytes h PointDataRecordFormat = h .«point_data_record_format» ∷ []
 fieldBytes h PointDataRecordLength = bytes (width PointDataRecordLength) (h .«point_data_record_length»)
 fieldBytes h LegacyNumberOfPointRecords = bytes (width LegacyNumberOfPointRecords) (h .«number_of_point_records»)
 fieldBytes h LegacyNumberOfPointsByReturn = many 4 (h .«number_of_points_by_return»)
@@ -169,10 +167,10 @@ fieldBytes h MinY = realBytes (h .«min_y») (h .nans .«min_y»)
 fieldBytes h MaxZ = realBytes (h .«max_z») (h .nans .«max_z»)
 fieldBytes h MinZ = realBytes (h .«min_z») (h .nans .«min_z»)
 fieldBytes h StartOfWaveformDataPacketRecord = bytes (width StartOfWaveformDataPacketRecord) (startBack (h .«start_of_waveform_data_packet_record»))
-fieldBytes h StartOfFirstEvlr = bytes (width StartOfFirstEvlr) (evlrStartBack (h .evlr))
-fieldBytes h NumberOfEvlrs = bytes (width NumberOfEvlrs) (evlrCountBack (h .evlr))
-fieldBytes h NumberOfPointRecords = bytes (width NumberOfPointRecords) (largeCountBack h)
-fieldBytes h NumberOfPointsByReturn = many 8 (largeByReturnBack h)
+fieldBytes h StartOfFirstEvlr = bytes (width StartOfFirstEvlr) (evlrBack (h .evlr) .«start_of_first_evlr»)
+fieldBytes h NumberOfEvlrs = bytes (width NumberOfEvlrs) (evlrBack (h .evlr) .«number_of_evlrs»)
+fieldBytes h NumberOfPointRecords = bytes (width NumberOfPointRecords) (largeBack h .«number_of_point_records»)
+fieldBytes h NumberOfPointsByReturn = many 8 (largeBack h .«number_of_points_by_return»)
 
 -- the bytes of some fields, one after the other
 abbrev pub run : Header → List Field → List ℕ
@@ -234,12 +232,12 @@ defaultHeader =
       «start_of_waveform_data_packet_record» = start.None;
       evlr = pair.None;
       «has_large_file» = false;
-      «large_file» = record { «number_of_point_records» = 0; «number_of_points_by_return» = replicate 15 0 };
+      «large_file» = noLarge;
     }
 
 -- "Effective count: the legacy count if it isn't zero, else the large count, if any"
 unfoldable pub pointsOf : Header → ℕ
-pointsOf h = cond (eqb (h .«number_of_point_records») 0) (largeCountBack h) (h .«number_of_point_records»)
+pointsOf h = cond (eqb (h .«number_of_point_records») 0) (largeBack h .«number_of_point_records») (h .«number_of_point_records»)
 
 -- the first byte after the points, by the header's own record length; 12 with the count where that is 2 ^ 64 or more
 unfoldable pub endOf : ℕ → ℕ → ℕ → EndOfPoints

@@ -2,10 +2,9 @@
 use Prim.Native.Nat.{ℕ, _+_, _*_, _-_}
 use mathlib.Core.Bool.{Bool, true, false, cond, _&&_}
 use mathlib.Core.List.{List, [], _∷_, _++_}
-use lib.Dec.{eqb, ltb}
+use lib.Dec.{eqb, leb, ltb}
 use lib.ListN.{length, take, drop}
-use Rattle.refusal.specs.declared.Refusal.the-variants.{Short, Signature, Version as VersionRefusal}
-use Rattle.lent.specs.Front.{frontOf}
+use Rattle.refusal.specs.declared.Refusal.the-variants.{NoRoom, Short, Signature, Version as VersionRefusal}
 use Rattle.lent.specs.declared.Wrote.{Wrote}
 use Rattle.lent.specs.declared.Wrote.the-variants as wrote
 use Rattle.header.specs.declared.Version.{Version}
@@ -72,11 +71,13 @@ paddingBy (answer.Refused r) s = []
 unfoldable pub paddingOf : List ℕ → List ℕ
 paddingOf s = paddingBy (judged s) s
 
--- "Single writes check 3 (header), then 22"
-unfoldable pub wroteBy : StandardSize → List ℕ → List ℕ → Wrote × List ℕ
-wroteBy (standard.Refused r) bs d = (wrote.Refused r, d)
-wroteBy (standard.Is n) bs d = frontOf bs d
+-- "Single writes check 3 (header), .. then 22": the block and then the padding, which want the standard size and the
+-- padding's length; "Writes answer their byte count and leave what lies past it"
+unfoldable pub wroteBy : StandardSize → Header → List ℕ → List ℕ → Wrote × List ℕ
+wroteBy (standard.Refused r) h padding d = (wrote.Refused r, d)
+wroteBy (standard.Is n) h padding d =
+    let wanted = n + length padding in
+    cond (leb wanted (length d)) (wrote.Bytes wanted, (block h ++ padding) ++ drop wanted d) (wrote.Refused (NoRoom wanted), d)
 
--- the block and then the padding
 unfoldable pub wroteOf : Header → List ℕ → List ℕ → Wrote × List ℕ
-wroteOf h padding d = wroteBy (standardOf (h .version)) (block h ++ padding) d
+wroteOf h padding d = wroteBy (standardOf (h .version)) h padding d

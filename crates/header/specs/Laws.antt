@@ -75,7 +75,7 @@ module _ (n e : ℕ) (b : Bool) (r : Refusal) (a : HeaderAnswer) where
       go false q h = let z : _≡_ {A = ℕ} 0 1 = cc in absurd (omega arith)
 
 -- of a version that has a size, the version and the size
-known : (v : Version) (n : ℕ) → standardOf v ≡ Is n → (v .major ≡ 1) × (v .minor < 5) × (n ≡ size (fieldsOf (v .minor)))
+pub known : (v : Version) (n : ℕ) → standardOf v ≡ Is n → (v .major ≡ 1) × (v .minor < 5) × (n ≡ size (fieldsOf (v .minor)))
 unfolding standardOf
 known v n p = go (eqb (v .major) 1) (ltb (v .minor) 5) refl refl p
   where

@@ -54,22 +54,37 @@ place f = span f .0
 abbrev pub width : Field → ℕ
 width f = span f .1
 
--- what versions 1.0 to 1.2 have, in order
-abbrev pub fields12 : List Field
-fields12 =
+-- what versions 1.0 to 1.2 have, in order: where the file comes from, what it holds, how its points are
+-- scaled, and where they lie
+abbrev pub origin : List Field
+origin =
     FileSignature ∷ FileSourceId ∷ GlobalEncoding ∷ Guid ∷ VersionMajor ∷ VersionMinor ∷ SystemIdentifier ∷
-    GeneratingSoftware ∷ FileCreationDayOfYear ∷ FileCreationYear ∷ HeaderSize ∷ OffsetToPointData ∷
-    NumberOfVariableLengthRecords ∷ PointDataRecordFormat ∷ PointDataRecordLength ∷ LegacyNumberOfPointRecords ∷
-    LegacyNumberOfPointsByReturn ∷ XScaleFactor ∷ YScaleFactor ∷ ZScaleFactor ∷ XOffset ∷ YOffset ∷ ZOffset ∷
-    MaxX ∷ MinX ∷ MaxY ∷ MinY ∷ MaxZ ∷ MinZ ∷ []
+    GeneratingSoftware ∷ []
+
+abbrev pub contents : List Field
+contents =
+    FileCreationDayOfYear ∷ FileCreationYear ∷ HeaderSize ∷ OffsetToPointData ∷ NumberOfVariableLengthRecords ∷
+    PointDataRecordFormat ∷ PointDataRecordLength ∷ LegacyNumberOfPointRecords ∷ LegacyNumberOfPointsByReturn ∷ []
+
+abbrev pub scales : List Field
+scales = XScaleFactor ∷ YScaleFactor ∷ ZScaleFactor ∷ XOffset ∷ YOffset ∷ ZOffset ∷ []
+
+abbrev pub bounds : List Field
+bounds = MaxX ∷ MinX ∷ MaxY ∷ MinY ∷ MaxZ ∷ MinZ ∷ []
+
+abbrev pub fields12 : List Field
+fields12 = origin ++ (contents ++ (scales ++ bounds))
 
 -- "Versions 1.3 and 1.4 have the waveform start"
 abbrev pub fields13 : List Field
 fields13 = fields12 ++ (StartOfWaveformDataPacketRecord ∷ [])
 
 -- "Only 1.4 has the EVLR start and count, then the point count and 15 counts by return"
+abbrev pub large : List Field
+large = StartOfFirstEvlr ∷ NumberOfEvlrs ∷ NumberOfPointRecords ∷ NumberOfPointsByReturn ∷ []
+
 abbrev pub fields14 : List Field
-fields14 = fields13 ++ (StartOfFirstEvlr ∷ NumberOfEvlrs ∷ NumberOfPointRecords ∷ NumberOfPointsByReturn ∷ [])
+fields14 = fields13 ++ large
 
 -- the fields of version 1.minor
 abbrev pub fieldsOf : ℕ → List Field

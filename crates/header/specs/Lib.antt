@@ -2,4 +2,5 @@ pub mod Layout
 pub mod Header
 pub mod Judged
 pub mod Laws
+pub mod Table
 pub mod Theorems

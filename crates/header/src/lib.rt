@@ -1,10 +1,17 @@
 // The public header block of a LAS file, versions 1.0 to 1.4. From src/raw/header.rs and src/version.rs of las 0.11.2.
 ghost use mathlib.Core.Path.{_≡_};
 ghost use Prim.Native.Nat.{_+_, _≤_};
+ghost use mathlib.Core.List.{[], _∷_};
 ghost use lib.ListN.{length, take, drop};
-ghost use Rattle.header.specs.Layout.{FileSignature, LegacyNumberOfPointsByReturn, NumberOfPointsByReturn};
-ghost use Rattle.header.specs.Header.{part, numbers, startOf, evlrOf, nansOf, headerOf, lasf, defaultHeader, pointsOf, endOf, endOfPoints};
-ghost use Rattle.header.specs.Judged.{eqList, standardOf, sized, versioned, judged, readOf, paddingOf};
+ghost use lib.Seq.{sets};
+ghost use Rattle.le.specs.Le.{bytes};
+ghost use Rattle.header.specs.Layout.{FileSignature, LegacyNumberOfPointsByReturn, NumberOfPointsByReturn, place, origin, contents, scales, bounds, large, fieldsOf};
+ghost use Rattle.header.specs.Header.{part, numbers, startOf, evlrOf, nansOf, headerOf, lasf, many, realBytes, startBack, evlrBack, largeBack, defaultHeader, pointsOf, endOf, endOfPoints};
+ghost use Rattle.header.specs.Table.{Stored};
+ghost use Rattle.header.specs.Judged.{eqList, standardOf, sized, versioned, judged, readOf, paddingOf, wroteBy, wroteOf};
+use le::float;
+use le::float::F64;
+use lent::Wrote;
 use refusal::Refusal;
 
 pub struct Version {
@@ -144,6 +151,18 @@ impl Header {
             HeaderAnswer::Refused(_) => Header::default(),
         };
         HeaderRead { answer, header }
+    }
+
+    // Writes the header's block and then `padding`, whatever its header-size field says, and leaves what lies past them.
+    // Refused with 3, then with 22, it writes nothing.
+    pub fn write_to(self, padding: &[u8], dst: &mut [u8]) -> Wrote
+        ensures { λ r. ⌜ (r, now (dst .exit)) ≡ wroteOf self (now (padding .entry)) (now (dst .entry)) ⌝ }
+    {
+        let version = self.version;
+        match version.header_size() {
+            StandardSize::Is(n) => write_sized(self, n, padding, dst),
+            StandardSize::Refused(refusal) => Wrote::Refused(refusal),
+        }
     }
 
     // The points the header counts: the legacy count if it is not zero, else the large count, if any.
@@ -467,4 +486,221 @@ fn end_of_points(offset: u32, points: u64, length: u16) -> EndOfPoints
         return EndOfPoints::Refused(Refusal::PointExtent(points));
     }
     EndOfPoints::Is(offset + points * length)
+}
+
+// The header's block of `n` bytes and then `padding`, or 22.
+fn write_sized(h: Header, n: u16, padding: &[u8], dst: &mut [u8]) -> Wrote
+    requires { ⌜ StandardSize.Is n ≡ standardOf (h .version) ⌝ }
+    ensures { λ r. ⌜ (r, now (dst .exit)) ≡ wroteBy (StandardSize.Is n) h (now (padding .entry)) (now (dst .entry)) ⌝ }
+{
+    let size = n as usize;
+    let wanted = size + padding.len();
+    if dst.len() < wanted {
+        return Wrote::Refused(Refusal::NoRoom(wanted as u64));
+    }
+    write_block(h, dst);
+    lent::put(&mut dst[size..], padding);
+    Wrote::Bytes(wanted)
+}
+
+// Each field of the header's version at its place.
+fn write_block(h: Header, dst: &mut [u8])
+    ensures { λ _. ⌜ Stored h (now (dst .entry)) (fieldsOf (h .version .minor)) (now (dst .exit)) ⌝ }
+{
+    let minor = h.version.minor;
+    let start = h.start_of_waveform_data_packet_record;
+    write_origin(h, dst);
+    write_contents(h, dst);
+    write_scales(h, dst);
+    write_bounds(h, dst);
+    if minor < 3 {
+        return;
+    }
+    set_u64(dst, 227, start_back(start));
+    if minor < 4 {
+        return;
+    }
+    write_large(h, dst);
+}
+
+// Where the file comes from.
+fn write_origin(h: Header, dst: &mut [u8])
+    ensures { λ _. ⌜ Stored h (now (dst .entry)) origin (now (dst .exit)) ⌝ }
+{
+    let guid = h.guid;
+    let system_identifier = h.system_identifier;
+    let generating_software = h.generating_software;
+    set_bytes(dst, 0, b"LASF");
+    set_u16(dst, 4, h.file_source_id);
+    set_u16(dst, 6, h.global_encoding);
+    set_16(dst, 8, guid);
+    set_u8(dst, 24, h.version.major);
+    set_u8(dst, 25, h.version.minor);
+    set_32(dst, 26, system_identifier);
+    set_32(dst, 58, generating_software);
+}
+
+// What the file holds.
+fn write_contents(h: Header, dst: &mut [u8])
+    ensures { λ _. ⌜ Stored h (now (dst .entry)) contents (now (dst .exit)) ⌝ }
+{
+    let by_return = h.number_of_points_by_return;
+    set_u16(dst, 90, h.file_creation_day_of_year);
+    set_u16(dst, 92, h.file_creation_year);
+    set_u16(dst, 94, h.header_size);
+    set_u32(dst, 96, h.offset_to_point_data);
+    set_u32(dst, 100, h.number_of_variable_length_records);
+    set_u8(dst, 104, h.point_data_record_format);
+    set_u16(dst, 105, h.point_data_record_length);
+    set_u32(dst, 107, h.number_of_point_records);
+    set_by_return(dst, by_return);
+}
+
+// How the points are scaled.
+fn write_scales(h: Header, dst: &mut [u8])
+    ensures { λ _. ⌜ Stored h (now (dst .entry)) scales (now (dst .exit)) ⌝ }
+{
+    let nans = h.nans;
+    set_f64(dst, 131, h.x_scale_factor, nans.x_scale_factor);
+    set_f64(dst, 139, h.y_scale_factor, nans.y_scale_factor);
+    set_f64(dst, 147, h.z_scale_factor, nans.z_scale_factor);
+    set_f64(dst, 155, h.x_offset, nans.x_offset);
+    set_f64(dst, 163, h.y_offset, nans.y_offset);
+    set_f64(dst, 171, h.z_offset, nans.z_offset);
+}
+
+// Where the points lie.
+fn write_bounds(h: Header, dst: &mut [u8])
+    ensures { λ _. ⌜ Stored h (now (dst .entry)) bounds (now (dst .exit)) ⌝ }
+{
+    let nans = h.nans;
+    set_f64(dst, 179, h.max_x, nans.max_x);
+    set_f64(dst, 187, h.min_x, nans.min_x);
+    set_f64(dst, 195, h.max_y, nans.max_y);
+    set_f64(dst, 203, h.min_y, nans.min_y);
+    set_f64(dst, 211, h.max_z, nans.max_z);
+    set_f64(dst, 219, h.min_z, nans.min_z);
+}
+
+// What only version 1.4 has.
+fn write_large(h: Header, dst: &mut [u8])
+    ensures { λ _. ⌜ Stored h (now (dst .entry)) large (now (dst .exit)) ⌝ }
+{
+    let pair = h.evlr;
+    let evlr = evlr_back(pair);
+    let large_file = large_back(h);
+    let by_return = large_file.number_of_points_by_return;
+    set_u64(dst, 235, evlr.start_of_first_evlr);
+    set_u32(dst, 243, evlr.number_of_evlrs);
+    set_u64(dst, 247, large_file.number_of_point_records);
+    set_large_by_return(dst, by_return);
+}
+
+// No waveform start is written as 0.
+fn start_back(start: OptionU64) -> u64
+    ensures { λ r. ⌜ r ≡ startBack start ⌝ }
+{
+    match start {
+        OptionU64::Some(n) => n,
+        OptionU64::None => 0,
+    }
+}
+
+// No EVLRs are written as two zeros.
+fn evlr_back(evlr: OptionEvlr) -> Evlr
+    ensures { λ r. ⌜ r ≡ evlrBack evlr ⌝ }
+{
+    match evlr {
+        OptionEvlr::Some(pair) => pair,
+        OptionEvlr::None => Evlr {
+            start_of_first_evlr: 0,
+            number_of_evlrs: 0,
+        },
+    }
+}
+
+// A missing large file is written as zeros.
+fn large_back(h: Header) -> LargeFile
+    ensures { λ r. ⌜ r ≡ largeBack h ⌝ }
+{
+    if h.has_large_file {
+        return h.large_file;
+    }
+    LargeFile {
+        number_of_point_records: 0,
+        number_of_points_by_return: [0; 15],
+    }
+}
+
+// Stores `v` in `d` from `at` on. Every store is total: what would lie past the end is left out.
+fn set_bytes(d: &mut [u8], at: usize, v: &[u8])
+    ensures { λ _. ⌜ now (d .exit) ≡ sets (now (d .entry)) at (now (v .entry)) ⌝ }
+{
+    if d.len() <= at {
+        return;
+    }
+    let room = d.len() - at;
+    if v.len() <= room {
+        lent::put(&mut d[at..], v);
+        return;
+    }
+    lent::put(&mut d[at..], &v[..room]);
+}
+
+fn set_16(d: &mut [u8], at: usize, v: [u8; 16])
+    ensures { λ _. ⌜ (now (d .exit) ≡ sets (now (d .entry)) at v) × (length v ≡ 16) ⌝ }
+{
+    set_bytes(d, at, &v)
+}
+
+fn set_32(d: &mut [u8], at: usize, v: [u8; 32])
+    ensures { λ _. ⌜ (now (d .exit) ≡ sets (now (d .entry)) at v) × (length v ≡ 32) ⌝ }
+{
+    set_bytes(d, at, &v)
+}
+
+fn set_u8(d: &mut [u8], at: usize, x: u8)
+    ensures { λ _. ⌜ now (d .exit) ≡ sets (now (d .entry)) at (x ∷ []) ⌝ }
+{
+    set_bytes(d, at, &[x])
+}
+
+fn set_u16(d: &mut [u8], at: usize, x: u16)
+    ensures { λ _. ⌜ now (d .exit) ≡ sets (now (d .entry)) at (bytes 2 x) ⌝ }
+{
+    set_bytes(d, at, &le::u16_bytes(x))
+}
+
+fn set_u32(d: &mut [u8], at: usize, x: u32)
+    ensures { λ _. ⌜ now (d .exit) ≡ sets (now (d .entry)) at (bytes 4 x) ⌝ }
+{
+    set_bytes(d, at, &le::u32_bytes(x))
+}
+
+fn set_u64(d: &mut [u8], at: usize, x: u64)
+    ensures { λ _. ⌜ now (d .exit) ≡ sets (now (d .entry)) at (bytes 8 x) ⌝ }
+{
+    set_bytes(d, at, &le::u64_bytes(x))
+}
+
+fn set_f64(d: &mut [u8], at: usize, value: f64, nan: u64)
+    ensures { λ _. ⌜ now (d .exit) ≡ sets (now (d .entry)) at (realBytes value nan) ⌝ }
+{
+    set_u64(d, at, float::f64_bits(F64 { value, nan }))
+}
+
+fn set_by_return(d: &mut [u8], xs: [u32; 5])
+    ensures { λ _. ⌜ (now (d .exit) ≡ sets (now (d .entry)) (place LegacyNumberOfPointsByReturn) (many 4 xs)) × (length xs ≡ 5) ⌝ }
+{
+    for i in 0..5 {
+        set_u32(d, 111 + 4 * i, xs[i]);
+    }
+}
+
+fn set_large_by_return(d: &mut [u8], xs: [u64; 15])
+    ensures { λ _. ⌜ (now (d .exit) ≡ sets (now (d .entry)) (place NumberOfPointsByReturn) (many 8 xs)) × (length xs ≡ 15) ⌝ }
+{
+    for i in 0..15 {
+        set_u64(d, 255 + 8 * i, xs[i]);
+    }
 }
