@@ -1,25 +1,24 @@
--- The header that a block of bytes holds, and the bytes of a header, field by field: document 01, "Record layouts".
+-- The header that a block of bytes holds, field by field: document 01, "Record layouts".
 use Prim.Native.Nat.{ℕ, zero, suc, _+_, _*_, _/_, _^_}
 use mathlib.Core.Bool.{true, false, cond}
-use mathlib.Core.List.{List, [], _∷_, _++_}
+use mathlib.Core.List.{List, [], _∷_}
 use lib.Dec.{eqb, ltb}
 use lib.Ieee.{Float, ofBits, binary64}
 use lib.ListN.{take, drop, replicate}
-use Rattle.le.specs.Le.{num, bytes}
-use Rattle.le.specs.Real.{f64Of, f64BitsOf}
+use Rattle.le.specs.Le.{num}
+use Rattle.le.specs.Real.{f64Of}
 use Rattle.le.specs.declared.float.F64.{F64}
 use Rattle.refusal.specs.declared.Refusal.the-variants.{PointExtent}
 use Rattle.header.specs.declared.Header.{Header}
 use Rattle.header.specs.declared.Nans.{Nans}
 use Rattle.header.specs.declared.OptionU64.{OptionU64}
 use Rattle.header.specs.declared.OptionU64.the-variants as start
-use Rattle.header.specs.declared.Evlr.{Evlr}
 use Rattle.header.specs.declared.LargeFile.{LargeFile}
 use Rattle.header.specs.declared.OptionEvlr.{OptionEvlr}
 use Rattle.header.specs.declared.OptionEvlr.the-variants as pair
 use Rattle.header.specs.declared.EndOfPoints.{EndOfPoints}
 use Rattle.header.specs.declared.EndOfPoints.the-variants as end
-use Rattle.header.specs.Layout.{Field, FileSignature, FileSourceId, GlobalEncoding, Guid, VersionMajor, VersionMinor, SystemIdentifier, GeneratingSoftware, FileCreationDayOfYear, FileCreationYear, HeaderSize, OffsetToPointData, NumberOfVariableLengthRecords, PointDataRecordFormat, PointDataRecordLength, LegacyNumberOfPointRecords, LegacyNumberOfPointsByReturn, XScaleFactor, YScaleFactor, ZScaleFactor, XOffset, YOffset, ZOffset, MaxX, MinX, MaxY, MinY, MaxZ, MinZ, StartOfWaveformDataPacketRecord, StartOfFirstEvlr, NumberOfEvlrs, NumberOfPointRecords, NumberOfPointsByReturn, place, width, fields12, fieldsOf, size}
+use Rattle.header.specs.Layout.{Field, FileSignature, FileSourceId, GlobalEncoding, Guid, VersionMajor, VersionMinor, SystemIdentifier, GeneratingSoftware, FileCreationDayOfYear, FileCreationYear, HeaderSize, OffsetToPointData, NumberOfVariableLengthRecords, PointDataRecordFormat, PointDataRecordLength, LegacyNumberOfPointRecords, LegacyNumberOfPointsByReturn, XScaleFactor, YScaleFactor, ZScaleFactor, XOffset, YOffset, ZOffset, MaxX, MinX, MaxY, MinY, MaxZ, MinZ, StartOfWaveformDataPacketRecord, StartOfFirstEvlr, NumberOfEvlrs, NumberOfPointRecords, NumberOfPointsByReturn, place, width, fields12, size}
 
 -- A field in a block of bytes: its bytes, the number they are, the numbers of w bytes that they are, the float they are.
 -- What lies past the block's end counts as 0, so a field that the version lacks reads as 0.
@@ -109,77 +108,12 @@ headerOf b =
 abbrev pub lasf : List ℕ
 lasf = 76 ∷ 65 ∷ 83 ∷ 70 ∷ []
 
--- numbers of w bytes, one after the other
-unfoldable pub many : ℕ → List ℕ → List ℕ
-many w [] = []
-many w (x ∷ xs) = bytes w x ++ many w xs
-
--- a float's bytes, from its value and what is kept beside it
-abbrev pub realBytes : Float → ℕ → List ℕ
-realBytes x n = bytes 8 (f64BitsOf (record { value = x; nan = n }))
-
--- none is written as 0
-abbrev pub startBack : OptionU64 → ℕ
-startBack (start.Some n) = n
-startBack start.None = 0
-
--- "none is written as two zeros"
-abbrev pub evlrBack : OptionEvlr → Evlr
-evlrBack (pair.Some e) = e
-evlrBack pair.None = record { «start_of_first_evlr» = 0; «number_of_evlrs» = 0 }
-
 -- a large file that is missing is written as zeros
 abbrev pub noLarge : LargeFile
 noLarge = record { «number_of_point_records» = 0; «number_of_points_by_return» = replicate 15 0 }
 
 abbrev pub largeBack : Header → LargeFile
 largeBack h = cond (h .«has_large_file») (h .«large_file») noLarge
-
--- the bytes of one field
-abbrev pub fieldBytes : Header → Field → List ℕ
-fieldBytes h FileSignature = lasf
-fieldBytes h FileSourceId = bytes (width FileSourceId) (h .«file_source_id»)
-fieldBytes h GlobalEncoding = bytes (width GlobalEncoding) (h .«global_encoding»)
-fieldBytes h Guid = h .guid
-fieldBytes h VersionMajor = h .version .major ∷ []
-fieldBytes h VersionMinor = h .version .minor ∷ []
-fieldBytes h SystemIdentifier = h .«system_identifier»
-fieldBytes h GeneratingSoftware = h .«generating_software»
-fieldBytes h FileCreationDayOfYear = bytes (width FileCreationDayOfYear) (h .«file_creation_day_of_year»)
-fieldBytes h FileCreationYear = bytes (width FileCreationYear) (h .«file_creation_year»)
-fieldBytes h HeaderSize = bytes (width HeaderSize) (h .«header_size»)
-fieldBytes h OffsetToPointData = bytes (width OffsetToPointData) (h .«offset_to_point_data»)
-fieldBytes h NumberOfVariableLengthRecords = bytes (width NumberOfVariableLengthRecords) (h .«number_of_variable_length_records»)
-fieldBytes h PointDataRecordFormat = h .«point_data_record_format» ∷ []
-fieldBytes h PointDataRecordLength = bytes (width PointDataRecordLength) (h .«point_data_record_length»)
-fieldBytes h LegacyNumberOfPointRecords = bytes (width LegacyNumberOfPointRecords) (h .«number_of_point_records»)
-fieldBytes h LegacyNumberOfPointsByReturn = many 4 (h .«number_of_points_by_return»)
-fieldBytes h XScaleFactor = realBytes (h .«x_scale_factor») (h .nans .«x_scale_factor»)
-fieldBytes h YScaleFactor = realBytes (h .«y_scale_factor») (h .nans .«y_scale_factor»)
-fieldBytes h ZScaleFactor = realBytes (h .«z_scale_factor») (h .nans .«z_scale_factor»)
-fieldBytes h XOffset = realBytes (h .«x_offset») (h .nans .«x_offset»)
-fieldBytes h YOffset = realBytes (h .«y_offset») (h .nans .«y_offset»)
-fieldBytes h ZOffset = realBytes (h .«z_offset») (h .nans .«z_offset»)
-fieldBytes h MaxX = realBytes (h .«max_x») (h .nans .«max_x»)
-fieldBytes h MinX = realBytes (h .«min_x») (h .nans .«min_x»)
-fieldBytes h MaxY = realBytes (h .«max_y») (h .nans .«max_y»)
-fieldBytes h MinY = realBytes (h .«min_y») (h .nans .«min_y»)
-fieldBytes h MaxZ = realBytes (h .«max_z») (h .nans .«max_z»)
-fieldBytes h MinZ = realBytes (h .«min_z») (h .nans .«min_z»)
-fieldBytes h StartOfWaveformDataPacketRecord = bytes (width StartOfWaveformDataPacketRecord) (startBack (h .«start_of_waveform_data_packet_record»))
-fieldBytes h StartOfFirstEvlr = bytes (width StartOfFirstEvlr) (evlrBack (h .evlr) .«start_of_first_evlr»)
-fieldBytes h NumberOfEvlrs = bytes (width NumberOfEvlrs) (evlrBack (h .evlr) .«number_of_evlrs»)
-fieldBytes h NumberOfPointRecords = bytes (width NumberOfPointRecords) (largeBack h .«number_of_point_records»)
-fieldBytes h NumberOfPointsByReturn = many 8 (largeBack h .«number_of_points_by_return»)
-
--- the bytes of some fields, one after the other
-abbrev pub run : Header → List Field → List ℕ
-run h [] = []
-run h (f ∷ fs) = fieldBytes h f ++ run h fs
-
--- the standard block of the header's version
-unfoldable pub block : Header → List ℕ
-block h = run h (fieldsOf (h .version .minor))
 
 -- the Rust's default: version 1.2, format 0, no points
 abbrev none : Float

@@ -1,21 +1,18 @@
--- When there is a header: rule 1 of document 01, "When a file is accepted"; what the reader answers, and what the writer writes.
+-- When there is a header: rule 1 of document 01, "When a file is accepted"; what the reader answers.
 use Prim.Native.Nat.{ℕ, _+_, _*_, _-_}
 use mathlib.Core.Bool.{Bool, true, false, cond, _&&_}
-use mathlib.Core.List.{List, [], _∷_, _++_}
-use lib.Dec.{eqb, leb, ltb}
+use mathlib.Core.List.{List, [], _∷_}
+use lib.Dec.{eqb, ltb}
 use lib.ListN.{length, take, drop}
-use Rattle.refusal.specs.declared.Refusal.the-variants.{NoRoom, Short, Signature, Version as VersionRefusal}
-use Rattle.lent.specs.declared.Wrote.{Wrote}
-use Rattle.lent.specs.declared.Wrote.the-variants as wrote
+use Rattle.refusal.specs.declared.Refusal.the-variants.{Short, Signature, Version as VersionRefusal}
 use Rattle.header.specs.declared.Version.{Version}
 use Rattle.header.specs.declared.StandardSize.{StandardSize}
 use Rattle.header.specs.declared.StandardSize.the-variants as standard
-use Rattle.header.specs.declared.Header.{Header}
 use Rattle.header.specs.declared.HeaderAnswer.{HeaderAnswer}
 use Rattle.header.specs.declared.HeaderAnswer.the-variants as answer
 use Rattle.header.specs.declared.HeaderRead.{HeaderRead}
 use Rattle.header.specs.Layout.{FileSignature, VersionMajor, VersionMinor, HeaderSize, fieldsOf, size}
-use Rattle.header.specs.Header.{part, number, headerOf, lasf, block, defaultHeader}
+use Rattle.header.specs.Header.{part, number, headerOf, lasf, defaultHeader}
 
 -- whether two lists are the same
 unfoldable pub eqList : List ℕ → List ℕ → Bool
@@ -70,14 +67,3 @@ paddingBy (answer.Refused r) s = []
 
 unfoldable pub paddingOf : List ℕ → List ℕ
 paddingOf s = paddingBy (judged s) s
-
--- "Single writes check 3 (header), .. then 22": the block and then the padding, which want the standard size and the
--- padding's length; "Writes answer their byte count and leave what lies past it"
-unfoldable pub wroteBy : StandardSize → Header → List ℕ → List ℕ → Wrote × List ℕ
-wroteBy (standard.Refused r) h padding d = (wrote.Refused r, d)
-wroteBy (standard.Is n) h padding d =
-    let wanted = n + length padding in
-    cond (leb wanted (length d)) (wrote.Bytes wanted, (block h ++ padding) ++ drop wanted d) (wrote.Refused (NoRoom wanted), d)
-
-unfoldable pub wroteOf : Header → List ℕ → List ℕ → Wrote × List ℕ
-wroteOf h padding d = wroteBy (standardOf (h .version)) h padding d

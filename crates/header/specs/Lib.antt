@@ -2,5 +2,4 @@ pub mod Layout
 pub mod Header
 pub mod Judged
 pub mod Laws
-pub mod Table
 pub mod Theorems
