@@ -2,5 +2,8 @@ pub mod Bytes
 pub mod Table
 pub mod Back
 pub mod Round
+pub mod Again
+pub mod Readable
+pub mod Reread
 pub mod Wrote
 pub mod Theorems

@@ -25,6 +25,25 @@ pub both : {P : Field → Type 0} {xs ys : List Field} → All P xs → All P ys
 both none q = q
 both (x & p) q = x & both p q
 
+pub first : {P : Field → Type 0} {f : Field} {fs : List Field} → All P (f ∷ fs) → P f
+first (x & xs) = x
+
+pub others : {P : Field → Type 0} {f : Field} {fs : List Field} → All P (f ∷ fs) → All P fs
+others (x & xs) = xs
+
+pub split : {P : Field → Type 0} (xs ys : List Field) → All P (xs ++ ys) → All P xs × All P ys
+split [] ys a = (none, a)
+split (x ∷ xs) ys (p & a) = let parts = split xs ys a in (p & parts .0, parts .1)
+
+-- what holds of all fields holds of those that a version has
+pub each : {P : Field → Type 0} (m : ℕ) → All P fields14 → All P (fieldsOf m)
+each {P} m a = go (ltb m 3) (ltb m 4)
+  where
+    go : (x y : Bool) → All P (cond x fields12 (cond y fields13 fields14))
+    go true y = split fields12 _ (split fields13 _ a .0) .0
+    go false true = split fields13 _ a .0
+    go false false = a
+
 -- the fields of a version follow each other from 0 on
 pub follows : (m : ℕ) → map place (fieldsOf m) ≡ starts 0 (fieldsOf m)
 follows m = go (ltb m 3) (ltb m 4)
@@ -64,7 +83,7 @@ module _ (h : Header) where
       stored-run fs (sets d (place f) (fieldBytes h f)) (n + width f) rest ws
       ∙ rw at (sym (sets-append d (fieldBytes h f) (run h fs) n ∙ rw w))
 
-  length-run : (fs : List Field) → All (λ (f : Field). length (fieldBytes h f) ≡ width f) fs → length (run h fs) ≡ size fs
+  pub length-run : (fs : List Field) → All (λ (f : Field). length (fieldBytes h f) ≡ width f) fs → length (run h fs) ≡ size fs
   length-run [] none = refl
   length-run (f ∷ fs) (w & ws) = length-append (fieldBytes h f) (run h fs) ∙ λ i. w i + length-run fs ws i
 

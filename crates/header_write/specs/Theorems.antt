@@ -1,17 +1,20 @@
 -- What reading and writing a header add up to.
-use Prim.Native.Nat.{ℕ}
+use Prim.Native.Nat.{ℕ, _+_}
 use mathlib.Core.Path.{_≡_}
 use mathlib.Core.Logic.{_⊎_}
 use mathlib.Core.List.{List, _++_}
-use lib.ListN.{take, drop, replicate}
+use lib.ListN.{length, take, drop, replicate}
 use Rattle.le.specs.Le.{Bytes}
+use Rattle.header.specs.declared.Header.{Header}
 use Rattle.header.specs.declared.HeaderAnswer.the-variants.{Whole}
-use Rattle.header.specs.Layout.{VersionMinor, StartOfFirstEvlr, NumberOfEvlrs}
+use Rattle.header.specs.Layout.{VersionMinor, StartOfFirstEvlr, NumberOfEvlrs, size, fieldsOf}
 use Rattle.header.specs.Header.{number}
 use Rattle.header.specs.Judged.{judged, readOf, paddingOf}
 use Rattle.header_write.specs.Bytes.{block}
 use Rattle.header_write.specs.Back.{Paired}
 use Rattle.header_write.specs.Round as round
+use Rattle.header_write.specs.Readable.{Readable}
+use Rattle.header_write.specs.Reread as reread
 
 -- Demand 2, "Written back, it has the same bytes": of bytes that are accepted, the header that was read and its padding are
 -- written as those bytes, up to the padding's end, a NaN's pattern included.
@@ -22,3 +25,12 @@ module _ (s : List ℕ) (bytes : Bytes s) {n e : ℕ} (p : judged s ≡ Whole n 
   -- "except that an EVLR start and count of which one is zero become two zeros"
   pub half-zero : number VersionMinor s ≡ 4 → (number StartOfFirstEvlr s ≡ 0) ⊎ (number NumberOfEvlrs s ≡ 0) → block (readOf s .header) ++ paddingOf s ≡ take 235 (take e s) ++ (replicate 12 0 ++ drop 247 (take e s))
   half-zero = round.half-zero s bytes p
+
+-- And back: a header that the reader could have answered, written with its padding in front of whatever else there is, is
+-- read as it was, and so is the padding.
+module _ (h : Header) (padding : List ℕ) (r : Readable h padding) (rest : List ℕ) where
+  pub read-again : readOf ((block h ++ padding) ++ rest) ≡ (let n = size (fieldsOf (h .version .minor)) in record { answer = Whole n (n + length padding); header = h })
+  read-again = reread.read-again h padding r rest
+
+  pub padding-again : paddingOf ((block h ++ padding) ++ rest) ≡ padding
+  padding-again = reread.padding-again h padding r rest
