@@ -1,6 +1,6 @@
 -- The header that a block of bytes holds, field by field: document 01, "Record layouts".
 use Prim.Native.Nat.{ℕ, zero, suc, _+_, _*_, _/_, _^_}
-use mathlib.Core.Bool.{true, false, cond}
+use mathlib.Core.Bool.{false, cond}
 use mathlib.Core.List.{List, [], _∷_}
 use lib.Dec.{eqb, ltb}
 use lib.Ieee.{Float, ofBits, binary64}
@@ -18,7 +18,7 @@ use Rattle.header.specs.declared.OptionEvlr.{OptionEvlr}
 use Rattle.header.specs.declared.OptionEvlr.the-variants as pair
 use Rattle.header.specs.declared.EndOfPoints.{EndOfPoints}
 use Rattle.header.specs.declared.EndOfPoints.the-variants as end
-use Rattle.header.specs.Layout.{Field, FileSignature, FileSourceId, GlobalEncoding, Guid, VersionMajor, VersionMinor, SystemIdentifier, GeneratingSoftware, FileCreationDayOfYear, FileCreationYear, HeaderSize, OffsetToPointData, NumberOfVariableLengthRecords, PointDataRecordFormat, PointDataRecordLength, LegacyNumberOfPointRecords, LegacyNumberOfPointsByReturn, XScaleFactor, YScaleFactor, ZScaleFactor, XOffset, YOffset, ZOffset, MaxX, MinX, MaxY, MinY, MaxZ, MinZ, StartOfWaveformDataPacketRecord, StartOfFirstEvlr, NumberOfEvlrs, NumberOfPointRecords, NumberOfPointsByReturn, place, width, fields12, size}
+use Rattle.header.specs.Layout.{Field, FileSourceId, GlobalEncoding, Guid, VersionMajor, VersionMinor, SystemIdentifier, GeneratingSoftware, FileCreationDayOfYear, FileCreationYear, HeaderSize, OffsetToPointData, NumberOfVariableLengthRecords, PointDataRecordFormat, PointDataRecordLength, LegacyNumberOfPointRecords, LegacyNumberOfPointsByReturn, XScaleFactor, YScaleFactor, ZScaleFactor, XOffset, YOffset, ZOffset, MaxX, MinX, MaxY, MinY, MaxZ, MinZ, StartOfWaveformDataPacketRecord, StartOfFirstEvlr, NumberOfEvlrs, NumberOfPointRecords, NumberOfPointsByReturn, place, width, fields12, size}
 
 -- A field in a block of bytes: its bytes, the number they are, the numbers of w bytes that they are, the float they are.
 -- What lies past the block's end counts as 0, so a field that the version lacks reads as 0.

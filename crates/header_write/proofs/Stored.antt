@@ -1,12 +1,12 @@
 -- Numbers of one width stored one after the other, and padding put after a block.
-use Prim.Native.Nat.{ℕ, zero, suc, _+_, _*_, _-_, _≤_, _<_}
-use mathlib.Core.Path.{_≡_, refl, ap, sym, _∙_}
-use mathlib.Core.List.{List, [], _∷_, _++_}
+use Prim.Native.Nat.{ℕ, suc, _+_, _*_, _-_, _≤_, _<_}
+use mathlib.Core.Path.{_≡_, ap, sym, _∙_}
+use mathlib.Core.List.{List, _++_}
 use native.Mathlib.Omega.{arith}
 use native.Mathlib.Nat.{mul-add, zero-add}
 use native.Mathlib.Numerals.{add-one}
-use lib.ListN.{length, set, getD, take, drop, length-set, length-append, drop-of-length-le}
-use lib.Seq.{sets, length-sets, set-out, drop-cons, take-nil}
+use lib.ListN.{length, getD, take, drop, length-append, drop-of-length-le}
+use lib.Seq.{sets, length-sets, drop-cons}
 use Rattle.le.specs.Le.{bytes}
 use Rattle.le.specs.Laws.{length-bytes}
 use Rattle.lent.specs.declared.Wrote.{Wrote}

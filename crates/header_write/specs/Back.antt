@@ -8,9 +8,9 @@ use native.Mathlib.Omega.{arith}
 use native.Mathlib.Nat.{zero-mul}
 use borrow.Author.Tests.{eqb-true, eqb-false, eq-eqb, ltb-false}
 use lib.Dec.{eqb, ltb}
-use lib.ListN.{length, getD, take, drop, replicate, length-drop}
+use lib.ListN.{length, take, drop, replicate, length-drop}
 use lib.Seq.{getD-drop, drop-cons, drop-drop, take-add, take-all}
-use Rattle.le.specs.Le.{le, num, bytes, Bytes}
+use Rattle.le.specs.Le.{num, bytes, Bytes}
 use Rattle.le.specs.Laws.{bytes-le, num-one, num-lt}
 use Rattle.le.specs.Real.{f64Of, f64-kept}
 use Rattle.header.specs.declared.Evlr.{Evlr}

@@ -8,7 +8,7 @@ use native.Mathlib.Omega.{arith}
 use borrow.Author.Tests.{eq-eqb, ltb-true, ltb-false}
 use lib.Dec.{eqb, ltb}
 use lib.Ieee.{Float}
-use lib.ListN.{length, take, drop, length-append}
+use lib.ListN.{length, take, length-append}
 use lib.Seq.{take-at, drop-at}
 use Rattle.le.specs.Le.{num, bytes}
 use Rattle.le.specs.Laws.{num-past}
@@ -18,11 +18,11 @@ use Rattle.header.specs.declared.LargeFile.{LargeFile}
 use Rattle.header.specs.declared.HeaderAnswer.{HeaderAnswer}
 use Rattle.header.specs.declared.HeaderAnswer.the-variants.{Whole}
 use Rattle.header.specs.Layout.{Field, FileSignature, FileSourceId, GlobalEncoding, Guid, VersionMajor, VersionMinor, SystemIdentifier, GeneratingSoftware, FileCreationDayOfYear, FileCreationYear, HeaderSize, OffsetToPointData, NumberOfVariableLengthRecords, PointDataRecordFormat, PointDataRecordLength, LegacyNumberOfPointRecords, LegacyNumberOfPointsByReturn, XScaleFactor, YScaleFactor, ZScaleFactor, XOffset, YOffset, ZOffset, MaxX, MinX, MaxY, MinY, MaxZ, MinZ, StartOfWaveformDataPacketRecord, StartOfFirstEvlr, NumberOfEvlrs, NumberOfPointRecords, NumberOfPointsByReturn, place, width, fields12, fields13, fields14, fieldsOf, size, large}
-use Rattle.header.specs.Header.{part, number, nums, real, startOf, evlrOf, nansOf, headerOf, lasf, noLarge, largeBack}
+use Rattle.header.specs.Header.{part, number, nums, startOf, evlrOf, nansOf, headerOf, lasf}
 use Rattle.header.specs.Judged.{paddedTo, judged, readBy, readOf, paddingBy, paddingOf}
 use Rattle.header.specs.Window.{num-take, part-take}
 use Rattle.header.specs.Laws.{whole, size-least}
-use Rattle.header_write.specs.Bytes.{many, realBytes, startBack, evlrBack, fieldBytes, run, block}
+use Rattle.header_write.specs.Bytes.{many, realBytes, fieldBytes, run, block}
 use Rattle.header_write.specs.Table.{All, none, _&_, first, others, each, split, follows, length-run, length-many}
 use Rattle.header_write.specs.Again.{There, found, number-read, one-read, part-read, real-read, many-read, nums-past}
 use Rattle.header_write.specs.Readable.{Counts, Real, Readable}

@@ -1,7 +1,7 @@
 use mathlib.Core.Path.{refl}
+use borrow.Author.Needs.{needs}
 use lib.ListN.{replicate}
 use Rattle.header.proofs.Text.{copied}
-use borrow.Author.Needs.{needs}
 use Rattle.header.proofs.bytes32.Statement.{statement}
 use Rattle.header.proofs.bytes32.Tie as tie
 

@@ -1,6 +1,6 @@
-use Rattle.header.proofs.Extent.{fits, reached, beyond, empty}
 use native.Mathlib.Omega.{arith}
 use borrow.Author.Needs.{needs}
+use Rattle.header.proofs.Extent.{fits, reached, beyond, empty}
 use Rattle.header.proofs.end_of_points.Statement.{statement}
 use Rattle.header.proofs.end_of_points.Tie as tie
 

@@ -1,5 +1,5 @@
-use Rattle.header.specs.Header.{evlrOf}
 use Rattle.refusal.proofs.Tests.{tests}
+use Rattle.header.specs.Header.{evlrOf}
 use Rattle.header.proofs.evlr_of.Statement.{statement}
 use Rattle.header.proofs.evlr_of.Tie as tie
 

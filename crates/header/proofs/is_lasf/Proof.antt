@@ -1,9 +1,9 @@
-use Rattle.header.proofs.Text.{decided}
-use Rattle.header.specs.Header.{lasf}
-use lib.Seq.{length-take-le}
-use lib.ListN.{take}
 use mathlib.Core.Path.{sym}
 use borrow.Author.Needs.{needs}
+use lib.Seq.{length-take-le}
+use lib.ListN.{take}
+use Rattle.header.specs.Header.{lasf}
+use Rattle.header.proofs.Text.{decided}
 use Rattle.header.proofs.is_lasf.Statement.{statement}
 use Rattle.header.proofs.is_lasf.Tie as tie
 

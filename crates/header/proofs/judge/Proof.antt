@@ -1,7 +1,7 @@
 use borrow.Author.Tests.{le-ltb}
-use Rattle.header.specs.Judged.{judged}
-use Rattle.refusal.proofs.Tests.{tests}
 use borrow.Author.Needs.{needs}
+use Rattle.refusal.proofs.Tests.{tests}
+use Rattle.header.specs.Judged.{judged}
 use Rattle.header.proofs.judge.Statement.{statement}
 use Rattle.header.proofs.judge.Tie as tie
 

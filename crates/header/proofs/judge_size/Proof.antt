@@ -1,6 +1,6 @@
-use Rattle.header.specs.Judged.{sized, paddedTo}
-use Rattle.refusal.proofs.Tests.{tests}
 use borrow.Author.Needs.{needs}
+use Rattle.refusal.proofs.Tests.{tests}
+use Rattle.header.specs.Judged.{sized, paddedTo}
 use Rattle.header.proofs.judge_size.Statement.{statement}
 use Rattle.header.proofs.judge_size.Tie as tie
 

@@ -1,10 +1,9 @@
-use Rattle.header.specs.Judged.{versionOf, standardOf, sized, versioned}
-use Rattle.header.specs.declared.StandardSize.{StandardSize}
 use mathlib.Core.Path.{sym, ap, _∙_}
 use borrow.Author.Tests.{le-ltb}
-use Rattle.header.specs.Judged.{versionOf, sized, versioned}
-use Rattle.refusal.proofs.Tests.{tests}
 use borrow.Author.Needs.{needs}
+use Rattle.refusal.proofs.Tests.{tests}
+use Rattle.header.specs.Judged.{versionOf, standardOf, sized, versioned}
+use Rattle.header.specs.declared.StandardSize.{StandardSize}
 use Rattle.header.proofs.judge_version.Statement.{statement}
 use Rattle.header.proofs.judge_version.Tie as tie
 

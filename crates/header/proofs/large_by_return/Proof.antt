@@ -1,6 +1,6 @@
 use mathlib.Core.List.{[], _∷_}
-use Rattle.header.specs.Header.{nums}
 use borrow.Author.Needs.{needs}
+use Rattle.header.specs.Header.{nums}
 use Rattle.header.proofs.large_by_return.Statement.{statement}
 use Rattle.header.proofs.large_by_return.Tie as tie
 

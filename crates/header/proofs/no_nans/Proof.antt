@@ -1,5 +1,5 @@
-use Rattle.header.specs.Header.{defaultHeader}
 use mathlib.Core.Path.{refl}
+use Rattle.header.specs.Header.{defaultHeader}
 use Rattle.header.proofs.no_nans.Statement.{statement}
 use Rattle.header.proofs.no_nans.Tie as tie
 

@@ -1,9 +1,9 @@
+use mathlib.Core.Path.{sym, ap, _∙_}
 use native.Mathlib.Omega.{arith}
+use borrow.Author.Needs.{needs}
 use Rattle.header.specs.Judged.{paddingBy, paddingOf}
 use Rattle.header.specs.Laws.{within}
 use Rattle.header.specs.declared.HeaderAnswer.{HeaderAnswer}
-use mathlib.Core.Path.{sym, ap, _∙_}
-use borrow.Author.Needs.{needs}
 use Rattle.header.proofs.padding.Statement.{statement}
 use Rattle.header.proofs.padding.Tie as tie
 
@@ -15,12 +15,12 @@ sub-result c =
 part-result-start : tie.Need-part-result-start
 part-result-start c =
     let w = within (c .before .before .before .before .before .args .s .now) (sym (c .before .before .before .judge .ensures) ∙ c .before .block .given .1) in
-    w .1
+    omega (arith, w .1)
 
 part-result-end : tie.Need-part-result-end
 part-result-end c =
     let w = within (c .before .before .before .before .before .args .s .now) (sym (c .before .before .before .judge .ensures) ∙ c .before .block .given .1) in
-    w .2
+    omega (arith, w .2)
 
 returns : tie.Need-returns
 unfolding paddingBy paddingOf

@@ -1,7 +1,7 @@
-use Rattle.header.specs.Header.{headerOf, startOf, evlrOf}
-use lib.Dec.{eqb}
 use mathlib.Core.Path.{ap, _∙_}
 use borrow.Author.Needs.{needs}
+use lib.Dec.{eqb}
+use Rattle.header.specs.Header.{headerOf, startOf, evlrOf}
 use Rattle.header.proofs.read_block.Statement.{statement}
 use Rattle.header.proofs.read_block.Tie as tie
 

@@ -1,5 +1,5 @@
-use Rattle.header.specs.Header.{nansOf}
 use borrow.Author.Needs.{needs}
+use Rattle.header.specs.Header.{nansOf}
 use Rattle.header.proofs.read_nans.Statement.{statement}
 use Rattle.header.proofs.read_nans.Tie as tie
 

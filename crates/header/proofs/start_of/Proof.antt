@@ -1,5 +1,5 @@
-use Rattle.header.specs.Header.{startOf}
 use Rattle.refusal.proofs.Tests.{tests}
+use Rattle.header.specs.Header.{startOf}
 use Rattle.header.proofs.start_of.Statement.{statement}
 use Rattle.header.proofs.start_of.Tie as tie
 

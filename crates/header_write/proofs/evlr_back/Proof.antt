@@ -1,6 +1,6 @@
-use Rattle.header_write.specs.Bytes.{evlrBack}
 use mathlib.Core.Path.{ap, sym}
 use borrow.Author.Needs.{needs}
+use Rattle.header_write.specs.Bytes.{evlrBack}
 use Rattle.header_write.proofs.evlr_back.Statement.{statement}
 use Rattle.header_write.proofs.evlr_back.Tie as tie
 

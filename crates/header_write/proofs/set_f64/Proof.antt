@@ -1,8 +1,8 @@
-use Rattle.le.specs.Le.{bytes}
 use Prim.Native.Nat.{ℕ}
-use lib.Seq.{sets}
 use mathlib.Core.Path.{ap, _∙_}
 use borrow.Author.Needs.{needs}
+use lib.Seq.{sets}
+use Rattle.le.specs.Le.{bytes}
 use Rattle.header_write.proofs.set_f64.Statement.{statement}
 use Rattle.header_write.proofs.set_f64.Tie as tie
 

@@ -1,11 +1,11 @@
-use Rattle.header_write.proofs.Stored.{many-turn, many-end}
-use Rattle.header_write.specs.Bytes.{many}
-use lib.Seq.{sets}
-use lib.ListN.{length, drop}
 use Prim.Native.Nat.{_+_, _*_, _-_, _≤_}
 use mathlib.Core.Path.{_≡_, refl}
 use native.Mathlib.Omega.{arith}
 use borrow.Author.Needs.{needs}
+use lib.Seq.{sets}
+use lib.ListN.{length, drop}
+use Rattle.header_write.specs.Bytes.{many}
+use Rattle.header_write.proofs.Stored.{many-turn, many-end}
 use Rattle.header_write.proofs.set_large_by_return.Statement.{statement}
 use Rattle.header_write.proofs.set_large_by_return.Tie as tie
 

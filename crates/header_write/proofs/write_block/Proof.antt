@@ -1,12 +1,12 @@
-use Rattle.header_write.specs.Table.{stored, none, _&_, then}
-use Rattle.header.specs.Layout.{StartOfWaveformDataPacketRecord, origin, contents, scales, bounds, large, fields12, fields13}
-use Rattle.le.specs.Le.{bytes}
-use lib.Seq.{sets}
-use mathlib.Core.List.{[], _∷_, _++_}
 use Prim.Native.Nat.{ℕ}
+use mathlib.Core.List.{[], _∷_, _++_}
 use mathlib.Core.Path.{refl, ap, _∙_}
 use borrow.Author.Tests.{le-ltb, lt-ltb}
 use borrow.Author.Needs.{needs}
+use lib.Seq.{sets}
+use Rattle.header.specs.Layout.{StartOfWaveformDataPacketRecord, origin, contents, scales, bounds, large, fields12, fields13}
+use Rattle.le.specs.Le.{bytes}
+use Rattle.header_write.specs.Table.{stored, none, _&_, then}
 use Rattle.header_write.proofs.write_block.Statement.{statement}
 use Rattle.header_write.proofs.write_block.Tie as tie
 

@@ -1,6 +1,6 @@
 use mathlib.Core.Path.{refl}
-use Rattle.header_write.specs.Table.{stored, none, _&_}
 use borrow.Author.Needs.{needs}
+use Rattle.header_write.specs.Table.{stored, none, _&_}
 use Rattle.header_write.proofs.write_bounds.Statement.{statement}
 use Rattle.header_write.proofs.write_bounds.Tie as tie
 

@@ -1,7 +1,6 @@
-use Rattle.header_write.specs.Table.{length-many}
 use mathlib.Core.Path.{refl}
-use Rattle.header_write.specs.Table.{stored, none, _&_}
 use borrow.Author.Needs.{needs}
+use Rattle.header_write.specs.Table.{length-many, stored, none, _&_}
 use Rattle.header_write.proofs.write_contents.Statement.{statement}
 use Rattle.header_write.proofs.write_contents.Tie as tie
 

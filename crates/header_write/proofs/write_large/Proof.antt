@@ -1,9 +1,8 @@
-use Rattle.header_write.specs.Table.{length-many}
 use mathlib.Core.Path.{refl, ap, sym, _∙_}
+use borrow.Author.Needs.{needs}
 use lib.ListN.{length}
 use Rattle.header.specs.declared.LargeFile.{LargeFile}
-use Rattle.header_write.specs.Table.{stored, none, _&_}
-use borrow.Author.Needs.{needs}
+use Rattle.header_write.specs.Table.{length-many, stored, none, _&_}
 use Rattle.header_write.proofs.write_large.Statement.{statement}
 use Rattle.header_write.proofs.write_large.Tie as tie
 

@@ -1,17 +1,17 @@
-use Rattle.lent.specs.declared.Wrote.the-variants.{Bytes}
-use mathlib.Core.List.{List}
 use Prim.Native.Nat.{ℕ, _+_}
+use mathlib.Core.List.{List}
 use mathlib.Core.Path.{_≡_, ap, sym, _∙_}
-use borrow.Author.Tests.{le-leb}
-use Rattle.header_write.specs.Wrote.{wroteBy}
-use Rattle.refusal.proofs.Tests.{tests}
-use Rattle.header_write.proofs.Stored.{padded}
-use Rattle.header_write.specs.Table.{stored-block, length-block}
-use Rattle.header.specs.Laws.{known}
-use Rattle.header_write.specs.Bytes.{block}
-use lib.ListN.{length}
 use native.Mathlib.Omega.{arith}
+use borrow.Author.Tests.{le-leb}
 use borrow.Author.Needs.{needs}
+use lib.ListN.{length}
+use Rattle.lent.specs.declared.Wrote.the-variants.{Bytes}
+use Rattle.refusal.proofs.Tests.{tests}
+use Rattle.header.specs.Laws.{known}
+use Rattle.header_write.specs.Wrote.{wroteBy}
+use Rattle.header_write.specs.Table.{stored-block, length-block}
+use Rattle.header_write.specs.Bytes.{block}
+use Rattle.header_write.proofs.Stored.{padded}
 use Rattle.header_write.proofs.write_sized.Statement.{statement}
 use Rattle.header_write.proofs.write_sized.Tie as tie
 

@@ -1,7 +1,7 @@
-use Rattle.header_write.specs.Wrote.{wroteBy, wroteOf}
-use Rattle.header.specs.declared.StandardSize.{StandardSize}
 use mathlib.Core.Path.{ap, sym, _∙_}
 use borrow.Author.Needs.{needs}
+use Rattle.header.specs.declared.StandardSize.{StandardSize}
+use Rattle.header_write.specs.Wrote.{wroteBy, wroteOf}
 use Rattle.header_write.proofs.write_to.Statement.{statement}
 use Rattle.header_write.proofs.write_to.Tie as tie
 

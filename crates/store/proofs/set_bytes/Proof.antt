@@ -1,11 +1,11 @@
-use Rattle.lent.specs.Laws.{tail}
-use lib.Seq.{length-take-le}
-use lib.ListN.{length, take}
-use native.Mathlib.Omega.{arith}
 use Prim.Native.Nat.{_-_}
 use mathlib.Core.Path.{_≡_, sym, _∙_}
-use Rattle.store.specs.Laws.{sets-clip}
+use native.Mathlib.Omega.{arith}
 use borrow.Author.Needs.{needs}
+use lib.Seq.{length-take-le}
+use lib.ListN.{length, take}
+use Rattle.lent.specs.Laws.{tail}
+use Rattle.store.specs.Laws.{sets-clip}
 use Rattle.store.proofs.set_bytes.Statement.{statement}
 use Rattle.store.proofs.set_bytes.Tie as tie
 

@@ -1,8 +1,8 @@
 use Prim.Native.Nat.{ℕ}
-use lib.Seq.{sets}
 use mathlib.Core.List.{List}
 use mathlib.Core.Path.{ap, _∙_}
 use borrow.Author.Needs.{needs}
+use lib.Seq.{sets}
 use Rattle.store.proofs.set_u64.Statement.{statement}
 use Rattle.store.proofs.set_u64.Tie as tie
 

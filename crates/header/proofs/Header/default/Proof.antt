@@ -1,5 +1,5 @@
-use Rattle.header.specs.Header.{defaultHeader}
 use borrow.Author.Needs.{needs}
+use Rattle.header.specs.Header.{defaultHeader}
 use Rattle.header.proofs.Header.default.Statement.{statement}
 use Rattle.header.proofs.Header.default.Tie as tie
 

@@ -1,7 +1,7 @@
 use borrow.Author.Tests.{eq-eqb}
-use Rattle.header.specs.Header.{pointsOf}
-use Rattle.refusal.proofs.Tests.{tests}
 use borrow.Author.Needs.{needs}
+use Rattle.refusal.proofs.Tests.{tests}
+use Rattle.header.specs.Header.{pointsOf}
 use Rattle.header.proofs.Header.number_of_point_records.Statement.{statement}
 use Rattle.header.proofs.Header.number_of_point_records.Tie as tie
 

@@ -1,11 +1,11 @@
-use Rattle.header.specs.declared.HeaderAnswer.the-variants.{Whole}
-use lib.Seq.{length-take-le}
+use mathlib.Core.Path.{sym, ap, _∙_}
 use native.Mathlib.Omega.{arith}
+use borrow.Author.Needs.{needs}
+use lib.Seq.{length-take-le}
+use Rattle.header.specs.declared.HeaderAnswer.the-variants.{Whole}
 use Rattle.header.specs.Judged.{readBy, readOf}
 use Rattle.header.specs.Laws.{within}
 use Rattle.header.specs.declared.HeaderAnswer.{HeaderAnswer}
-use mathlib.Core.Path.{sym, ap, _∙_}
-use borrow.Author.Needs.{needs}
 use Rattle.header.proofs.Header.read_from.Statement.{statement}
 use Rattle.header.proofs.Header.read_from.Tie as tie
 

@@ -1,8 +1,8 @@
 use Prim.Native.Nat.{_<_}
 use native.Mathlib.Omega.{arith}
-use Rattle.header.specs.Judged.{standardOf}
-use Rattle.refusal.proofs.Tests.{tests}
 use borrow.Author.Needs.{needs}
+use Rattle.refusal.proofs.Tests.{tests}
+use Rattle.header.specs.Judged.{standardOf}
 use Rattle.header.proofs.Version.header_size.Statement.{statement}
 use Rattle.header.proofs.Version.header_size.Tie as tie
 
