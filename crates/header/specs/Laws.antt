@@ -116,6 +116,11 @@ accepted s {n} {e} p =
       end = size-fits .3;
     }
 
+-- and its version has the block's size
+pub standard-of : (s : List ℕ) {n e : ℕ} → judged s ≡ Whole n e → standardOf (versionOf s) ≡ Is n
+unfolding standardOf versionOf
+standard-of s p = let a = accepted s p in rw (eq-eqb _ _ (a .major), lt-ltb _ _ (a .minor), ← (a .block))
+
 pub whole : (s : List ℕ) {n e : ℕ} → Accepted s n e → judged s ≡ Whole n e
 unfolding judged versioned standardOf versionOf sized
 whole s {n} {e} a =

@@ -284,7 +284,8 @@ fn is_lasf(s: &[u8]) -> bool
     check::same(&s[..4], b"LASF")
 }
 
-// The header in the standard block of its version.
+// The header in the standard block of its version. What the version lacks lies past the block and is read as 0, so as
+// missing.
 fn read_block(b: &[u8]) -> Header
     requires { ⌜ 227 ≤ length (now b) ⌝ }
     ensures { λ r. ⌜ r ≡ headerOf (now (b .entry)) ⌝ }
@@ -373,6 +374,7 @@ fn no_nans() -> Nans
     }
 }
 
+// The 16 bytes from `at` on.
 fn bytes16(s: &[u8], at: usize) -> [u8; 16]
     requires { ⌜ at + 16 ≤ length (now s) ⌝ }
     ensures { λ r. ⌜ r ≡ take 16 (drop at (now (s .entry))) ⌝ }
@@ -382,6 +384,7 @@ fn bytes16(s: &[u8], at: usize) -> [u8; 16]
     a
 }
 
+// The 32 bytes from `at` on.
 fn bytes32(s: &[u8], at: usize) -> [u8; 32]
     requires { ⌜ at + 32 ≤ length (now s) ⌝ }
     ensures { λ r. ⌜ r ≡ take 32 (drop at (now (s .entry))) ⌝ }

@@ -1,20 +1,23 @@
 -- An accepted list, read and written back, from its block and its padding.
-use Prim.Native.Nat.{ℕ, _-_, _≤_}
+use Prim.Native.Nat.{ℕ, _+_, _-_, _≤_}
 use mathlib.Core.Path.{_≡_, sym, ap, _∙_}
 use mathlib.Core.Logic.{_⊎_}
 use mathlib.Core.List.{List, _++_, append-assoc}
 use native.Mathlib.Nat.{add-sub-of-le}
 use native.Mathlib.Omega.{arith}
-use lib.ListN.{length, take, drop, replicate}
+use lib.ListN.{length, take, drop, replicate, length-drop}
+use borrow.Author.Tests.{le-leb}
 use lib.Seq.{length-take-le, take-add, take-append-le, drop-append-le}
 use Rattle.le.specs.Le.{Bytes}
+use Rattle.lent.specs.declared.Wrote.the-variants as wrote
 use Rattle.header.specs.declared.HeaderAnswer.the-variants.{Whole}
 use Rattle.header.specs.Layout.{FileSignature, VersionMinor, StartOfFirstEvlr, NumberOfEvlrs, size, fieldsOf}
 use Rattle.header.specs.Header.{part, number, lasf, headerOf}
-use Rattle.header.specs.Judged.{judged, readBy, readOf, paddingBy, paddingOf}
+use Rattle.header.specs.Judged.{versionOf, judged, readBy, readOf, paddingBy, paddingOf}
 use Rattle.header.specs.Window.{num-take, part-take, bytes-take}
-use Rattle.header.specs.Laws.{accepted, within}
+use Rattle.header.specs.Laws.{accepted, within, standard-of}
 use Rattle.header_write.specs.Bytes.{block}
+use Rattle.header_write.specs.Wrote.{wroteBy, wroteOf}
 use Rattle.header_write.specs.Back.{Paired, block-back, block-half}
 
 -- bytes 235 to 246 replaced, in front of padding and before it is put there
@@ -70,3 +73,17 @@ module _ (s : List ℕ) (bytes : Bytes s) {n e : ℕ} (p : judged s ≡ Whole n 
       (rw (start-same four, count-same four) half))
       ∙ cleared-then (take n s) (take (e - n) (drop n s)) (replicate 12 0) long
       ∙ ap (λ (l : List ℕ). take 235 l ++ (replicate 12 0 ++ drop 247 l)) whole-list
+
+  -- the answer and the buffer, where there is room
+  version-same : readOf s .header .version ≡ versionOf s
+  unfolding readOf readBy headerOf versionOf
+  version-same = rw p (λ i. record { major = num-take n s 1 24 (omega (arith, within s p .0)) i; minor = minor-same i })
+
+  pub written-back : (d : List ℕ) {bs : List ℕ} → block (readOf s .header) ++ paddingOf s ≡ bs → e ≤ length d → wroteOf (readOf s .header) (paddingOf s) d ≡ (wrote.Bytes e, bs ++ drop e d)
+  unfolding wroteOf wroteBy paddingOf paddingBy
+  written-back d q room =
+      let w = within s p in
+      let pad : length (take (e - n) (drop n s)) ≡ e - n = length-take-le (e - n) (drop n s) (simp length-drop (omega (arith, w .1, w .2))) in
+      let wanted : n + length (paddingOf s) ≡ e = rw (p, pad) (add-sub-of-le (w .1)) in
+      let fits : n + length (paddingOf s) ≤ length d = omega arith in
+      rw (version-same, standard-of s p, le-leb _ _ fits, wanted, q)

@@ -1,5 +1,5 @@
-// The header written: `Header::write_to` of src/raw/header.rs of las 0.11.2. Apart from crate `header` because together
-// they would be checked for a minute.
+// The header written: `Header::write_to` of src/raw/header.rs of las 0.11.2. It stands apart from crate `header` so that
+// each is checked within half a minute.
 ghost use mathlib.Core.Path.{_≡_};
 ghost use Prim.Native.Nat.{_+_, _≤_};
 ghost use lib.ListN.{length};
@@ -179,24 +179,28 @@ fn large_back(has_large_file: bool, large_file: LargeFile) -> LargeFile
     }
 }
 
+// Stores an array of 16 bytes, and tells its length.
 fn set_16(d: &mut [u8], at: usize, v: [u8; 16])
     ensures { λ _. ⌜ (now (d .exit) ≡ sets (now (d .entry)) at v) × (length v ≡ 16) ⌝ }
 {
     store::set_bytes(d, at, &v)
 }
 
+// Stores an array of 32 bytes, and tells its length.
 fn set_32(d: &mut [u8], at: usize, v: [u8; 32])
     ensures { λ _. ⌜ (now (d .exit) ≡ sets (now (d .entry)) at v) × (length v ≡ 32) ⌝ }
 {
     store::set_bytes(d, at, &v)
 }
 
+// Stores a float by its pattern, from its value and what is kept beside it.
 fn set_f64(d: &mut [u8], at: usize, value: f64, nan: u64)
     ensures { λ _. ⌜ now (d .exit) ≡ sets (now (d .entry)) at (realBytes value nan) ⌝ }
 {
     store::set_u64(d, at, float::f64_bits(F64 { value, nan }))
 }
 
+// Stores the legacy counts by return, and tells how many there are.
 fn set_by_return(d: &mut [u8], xs: [u32; 5])
     ensures { λ _. ⌜ (now (d .exit) ≡ sets (now (d .entry)) (place LegacyNumberOfPointsByReturn) (many 4 xs)) × (length xs ≡ 5) ⌝ }
 {
@@ -205,6 +209,7 @@ fn set_by_return(d: &mut [u8], xs: [u32; 5])
     }
 }
 
+// Stores the counts by return of version 1.4, and tells how many there are.
 fn set_large_by_return(d: &mut [u8], xs: [u64; 15])
     ensures { λ _. ⌜ (now (d .exit) ≡ sets (now (d .entry)) (place NumberOfPointsByReturn) (many 8 xs)) × (length xs ≡ 15) ⌝ }
 {
