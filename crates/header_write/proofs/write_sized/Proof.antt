@@ -22,11 +22,14 @@ returns c = search tests
 returns-2 : tie.Need-returns-2
 unfolding wroteBy
 returns-2 c =
-    let a = c .before .before .before .before .before .before .before .before .before .before .before .args in
+    let c6 = c .before .before .before .before .before .before in
+    let c8 = c6 .before .before in
+    let c11 = c8 .before .before .before in
+    let a = c11 .args in
     let put = c .before .before .put in
-    let wrote = c .before .before .before .before .before .before .write-block in
-    let size : length (block (a .h)) ≡ a .n = length-block (a .h) (wrote .ensures) ∙ sym (known (a .h .version) (a .n) (sym (c .before .before .before .before .before .before .before .before .before .before .before .pre)) .2) in
-    rw (le-leb _ _ (c .before .before .before .before .before .before .before .before .if1 .left))
+    let wrote = c6 .write-block in
+    let size : length (block (a .h)) ≡ a .n = length-block (a .h) (wrote .ensures) ∙ sym (known (a .h .version) (a .n) (sym (c11 .pre)) .2) in
+    rw (le-leb _ _ (c8 .if1 .left))
     (ap (λ (l : List ℕ). (Bytes (a .n + length (a .padding .now)), l))
     (padded (a .dst .now) (block (a .h)) (a .padding .now) (wrote .last .1 .0) (put .last .0) (a .n) (put .result) size (omega arith) (stored-block (a .h) (wrote .ensures)) (put .ensures)))
 
