@@ -1,0 +1,9 @@
+pub mod Bytes
+pub mod Table
+pub mod Wrote
+pub mod Back
+pub mod Round
+pub mod Again
+pub mod Readable
+pub mod Reread
+pub mod Theorems
