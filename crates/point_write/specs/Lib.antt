@@ -1,2 +1,4 @@
 pub mod Write
 pub mod Laws
+pub mod Back
+pub mod Theorems
