@@ -1,9 +1,8 @@
 -- Field by field, what the reader finds is put back by the writer as the bytes it was found in.
 use Prim.Native.Nat.{ℕ, _+_, _%_, _≤_, _^_, _<_}
-use mathlib.Core.Path.{_≡_, refl, ap, sym, _∙_}
+use mathlib.Core.Path.{_≡_, refl, ap, _∙_}
 use mathlib.Core.Bool.{Bool, true, false, cond}
 use mathlib.Core.List.{List, [], _∷_, _++_}
-use native.Mathlib.Nat.{add-zero}
 use native.Mathlib.Omega.{arith}
 use borrow.Author.Tests.{eqb-true}
 use lib.Dec.{eqb}
@@ -11,21 +10,20 @@ use lib.Ieee.{binary32}
 use lib.ListN.{length, take, drop}
 use lib.Seq.{take-add, drop-drop}
 use mir.Syntax.{Width, w8, w16, w32}
-use mir.Val.{Fits, bits, ofZ, toZ}
+use mir.Val.{bits, ofZ, toZ}
 use mir.ValLaws.{ofZ-toZ}
 use Rattle.le.specs.Le.{num, bytes, Bytes}
 use Rattle.le.specs.Laws.{num-lt, bytes-num, span-num}
-use Rattle.le.specs.Real.{patternOf, f32Of, f64BitsOf, f64Of, pattern-kept, f64-kept}
+use Rattle.le.specs.Real.{patternOf, f32Of, pattern-kept, f64-kept}
 use Rattle.format.specs.declared.Format.{Format}
 use Rattle.format.specs.declared.Field.{Field}
-use Rattle.format.specs.declared.Field.the-variants.{X, Y, Z, Intensity, Flags, UserData, ScanAngle, PointSourceId, GpsTime, Color, Nir, Waveform, ExtraBytes}
+use Rattle.format.specs.declared.Field.the-variants.{UserData, ScanAngle, PointSourceId, GpsTime, Color, Nir, Waveform, ExtraBytes}
 use Rattle.format.specs.Fields.{only, restOf, fieldsOf, sizeOf, placeOf, Follow, sizes, recordBytes}
 use Rattle.format.specs.Laws.{fields-follow}
 use Rattle.flags.specs.Bytes.{twoBytesOf, threeBytesOf}
 use Rattle.angle.specs.Angle.{toRank, toScaled}
-use Rattle.point.specs.declared.Point.{Point}
 use Rattle.point.specs.Read.{fieldOf, flagsAt, angleAt, timeAt, colorAt, nirOf, nirAt, waveformAt, maybeWaveformAt, pointOf}
-use Rattle.point_write.specs.Write.{timeBytes, colorBytes, nirBytes, waveformOf, waveformBytes, threeList, twoList, fieldBytes, joined, recordOf}
+use Rattle.point_write.specs.Write.{timeBytes, colorBytes, nirBytes, waveformBytes, threeList, twoList, fieldBytes, joined, recordOf}
 
 -- NIR 0 reads as missing, and missing is written as 0
 nir-back : (n : ℕ) → nirBytes (nirOf n) ≡ bytes 2 n

@@ -1,4 +1,6 @@
 pub mod Write
 pub mod Laws
 pub mod Back
+pub mod Answered
+pub mod Past
 pub mod Theorems
