@@ -61,19 +61,19 @@ module _ (f : Format) (p : Point) (e : List ℕ) where
   legacy-is a b h t = rw (h, t)
 
   -- each field after the source id takes the table's bytes
-  time-length : (t : MaybeTime) → length (timeBytes t) ≡ 8
+  pub time-length : (t : MaybeTime) → length (timeBytes t) ≡ 8
   time-length (some-time.Some t) = refl
   time-length some-time.None = refl
 
-  color-length : (c : MaybeColor) → length (colorBytes c) ≡ 6
+  pub color-length : (c : MaybeColor) → length (colorBytes c) ≡ 6
   color-length (some-color.Some c) = refl
   color-length some-color.None = refl
 
-  nir-length : (n : MaybeNir) → length (nirBytes n) ≡ 2
+  pub nir-length : (n : MaybeNir) → length (nirBytes n) ≡ 2
   nir-length (some-nir.Some n) = refl
   nir-length some-nir.None = refl
 
-  waveform-length : (w : MaybeWaveform) → length (waveformBytes w) ≡ 29
+  pub waveform-length : (w : MaybeWaveform) → length (waveformBytes w) ≡ 29
   waveform-length (some-waveform.Some w) = refl
   waveform-length some-waveform.None = refl
 

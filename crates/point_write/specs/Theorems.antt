@@ -15,6 +15,8 @@ use Rattle.point_write.specs.Write.{recordOf, writtenOf}
 use Rattle.point_write.specs.Back.{record-back}
 use Rattle.point_write.specs.Answered.{Answered, answered, answered-written}
 use Rattle.point_write.specs.Past.{point-take, read-take, extra-take}
+use Rattle.point_write.specs.Held.{Held}
+use Rattle.point_write.specs.Again.{point-again, extra-again}
 
 module _ (f : Format) (s : List ℕ) where
   -- "What a reader answers, written back, is the bytes read", in every format: a NaN's bits, NIR 0 and the extra bytes too.
@@ -41,3 +43,11 @@ module _ (f : Format) (s : List ℕ) where
 -- So lists that agree on the record's bytes read alike.
 pub read-alike : (f : Format) (s t : List ℕ) → take (recordBytes f) s ≡ take (recordBytes f) t → readOf f s ≡ readOf f t
 read-alike f s t e = sym (read-never-past f s) ∙ ap (readOf f) e ∙ read-never-past f t
+
+-- "What is written, read again, is the value", for a point that the format can hold, whatever stands after the record.
+module _ (f : Format) (p : Point) (e : List ℕ) (held : Held f p e) (rest : List ℕ) where
+  pub written-then-read : pointOf f (recordOf f p e ++ rest) ≡ p
+  written-then-read = point-again f p e held rest
+
+  pub extra-written-then-read : fieldOf f ExtraBytes (recordOf f p e ++ rest) ≡ e
+  extra-written-then-read = extra-again f p e held rest
