@@ -6,7 +6,7 @@ use native.Mathlib.Nat.{zero-add, suc-add, pow-succ', mul-assoc, add-assoc, add-
 use native.Mathlib.Numerals.{one-add}
 use native.Mathlib.Omega.{arith}
 use lib.ListN.{getD, take, drop, length, length-drop, drop-of-length-le}
-use lib.Seq.{drop-drop, getD-drop, getD-take, take-add}
+use lib.Seq.{drop-drop, getD-drop, getD-take, take-add, take-take, take-at, drop-at}
 use Rattle.le.specs.Le.{le, num, bytes, bytesFrom, Bytes}
 
 -- the bytes of a number are those of its low part and of its high part
@@ -85,12 +85,12 @@ pub bytes-num : (w at : ℕ) (s : List ℕ) → Bytes s → at + w ≤ length s 
 unfolding num
 bytes-num w at s b h = bytes-le w (drop at s) (λ k. rw getD-drop (b (at + k))) (rw length-drop (omega arith))
 
--- numbers of these widths, one after the other
+-- how many bytes numbers of these widths take, one after the other
 abbrev pub total : List ℕ → ℕ
 total [] = 0
 total (w ∷ ws) = w + total ws
 
--- the bytes of those that stand from k past a place on
+-- the bytes of those that s has from k past `at` on
 abbrev pub spanFrom : List ℕ → ℕ → List ℕ → ℕ → List ℕ
 spanFrom [] at s k = []
 spanFrom (w ∷ ws) at s k = bytes w (num w (at + k) s) ++ spanFrom ws at s (k + w)
@@ -124,3 +124,42 @@ unfolding num
 num-bytes w at s x h e =
     le-same w (drop at s) (take w (drop at s)) (λ k l. sym (getD-take w (drop at s) k 0 l))
     ∙ ap (le w) (e ∙ sym (append-nil (bytes w x))) ∙ le-bytes w x [] h
+
+-- the two parts of what is taken
+take-split : (w m : ℕ) (l xs ys : List ℕ) → length xs ≡ w → take (w + m) l ≡ xs ++ ys → (take w l ≡ xs) × (take m (drop w l) ≡ ys)
+take-split w m l xs ys h e =
+    let front : take w l ≡ xs = sym (take-take w (w + m) l (omega arith)) ∙ ap (take w) e ∙ take-at xs ys w h in
+    let both : xs ++ take m (drop w l) ≡ xs ++ ys = rw (take-add, front) at e in
+    (front, sym (drop-at xs (take m (drop w l)) w h) ∙ ap (drop w) both ∙ drop-at xs ys w h)
+
+-- numbers one after the other, each as its width and its value: how many bytes they take
+abbrev pub widths : List (ℕ × ℕ) → ℕ
+widths [] = 0
+widths ((w, x) ∷ vs) = w + widths vs
+
+-- those bytes
+abbrev pub theirBytes : List (ℕ × ℕ) → List ℕ
+theirBytes [] = []
+theirBytes ((w, x) ∷ vs) = bytes w x ++ theirBytes vs
+
+-- each value fits its width
+abbrev pub Fit : List (ℕ × ℕ) → Type 0
+Fit [] = Unit
+Fit ((w, x) ∷ vs) = (x < 256 ^ w) × Fit vs
+
+-- each is the number that s has in its place, from k past `at` on
+abbrev pub Say : List (ℕ × ℕ) → ℕ → List ℕ → ℕ → Type 0
+Say [] at s k = Unit
+Say ((w, x) ∷ vs) at s k = (num w (at + k) s ≡ x) × Say vs at s (k + w)
+
+nums-from : (vs : List (ℕ × ℕ)) (at : ℕ) (s : List ℕ) (k : ℕ) → Fit vs → take (widths vs) (drop (at + k) s) ≡ theirBytes vs → Say vs at s k
+nums-from [] at s k fit e = tt
+nums-from ((w, x) ∷ vs) at s k (h, fit) e =
+    let parts = take-split w (widths vs) (drop (at + k) s) (bytes w x) (theirBytes vs) (length-bytes w x) e in
+    (num-bytes w (at + k) s x h (parts .0), nums-from vs at s (k + w) fit (rw (drop-drop, add-assoc) at (parts .1)))
+
+-- numbers whose bytes stand one after the other are read from them
+pub nums-bytes : (w x : ℕ) (vs : List (ℕ × ℕ)) (at : ℕ) (s : List ℕ) → x < 256 ^ w → Fit vs → take (w + widths vs) (drop at s) ≡ bytes w x ++ theirBytes vs → (num w at s ≡ x) × Say vs at s w
+nums-bytes w x vs at s h fit e =
+    let parts = take-split w (widths vs) (drop at s) (bytes w x) (theirBytes vs) (length-bytes w x) e in
+    (num-bytes w at s x h (parts .0), nums-from vs at s w fit (rw drop-drop at (parts .1)))

@@ -1,21 +1,20 @@
 -- Every field stands at its place in the record written, so that it is read again as it was.
-use Prim.Native.Nat.{ℕ, _+_, _%_, _≤_, _<_, _^_}
+use Prim.Native.Nat.{ℕ, _+_, _%_, _<_, _^_}
 use mathlib.Core.Path.{_≡_, refl, ap, sym, subst, _∙_}
 use mathlib.Core.Bool.{Bool, true, false, cond}
 use mathlib.Core.List.{List, [], _∷_, _++_, append-assoc}
-use native.Mathlib.Nat.{add-assoc, mod-eq-of-lt}
+use native.Mathlib.Nat.{mod-eq-of-lt}
 use native.Mathlib.Omega.{arith}
 use borrow.Author.Tests.{ne-eqb}
-use lib.Dec.{eqb}
 use lib.Ieee.{Float, binary32}
 use lib.IntN.{ℤ}
 use lib.ListN.{length, take, drop, length-append}
-use lib.Seq.{take-add, take-take, take-at, drop-at, drop-drop}
+use lib.Seq.{take-at, drop-at}
 use mir.Syntax.{Width, w8, w16, w32}
 use mir.Val.{SFits, bits, ofZ, toZ}
 use mir.ValLaws.{ofZ-fits, toZ-ofZ}
 use Rattle.le.specs.Le.{num, bytes}
-use Rattle.le.specs.Laws.{num-bytes, length-bytes}
+use Rattle.le.specs.Laws.{num-bytes, nums-bytes}
 use Rattle.le.specs.Real.{patternOf, f32Of, f64Of, f64BitsOf}
 use Rattle.format.specs.declared.Format.{Format}
 use Rattle.format.specs.declared.Field.{Field}
@@ -41,42 +40,6 @@ use Rattle.point.specs.Read.{fieldOf, flagsAt, angleAt, timeAt, colorAt, nirOf,
 use Rattle.point_write.specs.Write.{timeBytes, colorBytes, nirBytes, waveformBytes, fieldBytes, joined, recordOf, threeList, twoList}
 use Rattle.point_write.specs.Laws.{time-length, color-length, nir-length, waveform-length}
 use Rattle.point_write.specs.Held.{FlagsHeld, AngleHeld, TimeHeld, ColorHeld, NirHeld, WaveformHeld, F32Held, Held}
-
--- the two parts of what is taken
-take-split : (w m : ℕ) (l xs ys : List ℕ) → length xs ≡ w → take (w + m) l ≡ xs ++ ys → (take w l ≡ xs) × (take m (drop w l) ≡ ys)
-take-split w m l xs ys h e =
-    let front : take w l ≡ xs = sym (take-take w (w + m) l (omega arith)) ∙ ap (take w) e ∙ take-at xs ys w h in
-    let both : xs ++ take m (drop w l) ≡ xs ++ ys = rw (take-add, front) at e in
-    (front, sym (drop-at xs (take m (drop w l)) w h) ∙ ap (drop w) both ∙ drop-at xs ys w h)
-
--- numbers of these widths and values, one after the other: their bytes, and that they stand in s from k past a place on
-abbrev widths : List (ℕ × ℕ) → ℕ
-widths [] = 0
-widths ((w, x) ∷ vs) = w + widths vs
-
-abbrev theirBytes : List (ℕ × ℕ) → List ℕ
-theirBytes [] = []
-theirBytes ((w, x) ∷ vs) = bytes w x ++ theirBytes vs
-
-abbrev Fit : List (ℕ × ℕ) → Type 0
-Fit [] = Unit
-Fit ((w, x) ∷ vs) = (x < 256 ^ w) × Fit vs
-
-abbrev Say : List (ℕ × ℕ) → ℕ → List ℕ → ℕ → Type 0
-Say [] at s k = Unit
-Say ((w, x) ∷ vs) at s k = (num w (at + k) s ≡ x) × Say vs at s (k + w)
-
-say-from : (vs : List (ℕ × ℕ)) (at : ℕ) (s : List ℕ) (k : ℕ) → Fit vs → take (widths vs) (drop (at + k) s) ≡ theirBytes vs → Say vs at s k
-say-from [] at s k fit e = tt
-say-from ((w, x) ∷ vs) at s k (h, fit) e =
-    let parts = take-split w (widths vs) (drop (at + k) s) (bytes w x) (theirBytes vs) (length-bytes w x) e in
-    (num-bytes w (at + k) s x h (parts .0), say-from vs at s (k + w) fit (rw (drop-drop, add-assoc) at (parts .1)))
-
--- numbers whose bytes stand one after the other are read from them
-say : (w x : ℕ) (vs : List (ℕ × ℕ)) (at : ℕ) (s : List ℕ) → x < 256 ^ w → Fit vs → take (w + widths vs) (drop at s) ≡ bytes w x ++ theirBytes vs → (num w at s ≡ x) × Say vs at s w
-say w x vs at s h fit e =
-    let parts = take-split w (widths vs) (drop at s) (bytes w x) (theirBytes vs) (length-bytes w x) e in
-    (num-bytes w at s x h (parts .0), say-from vs at s w fit (rw drop-drop at (parts .1)))
 
 -- whether a format has a field
 abbrev hasOf : Format → Field → Bool
@@ -122,13 +85,13 @@ module _ (s : List ℕ) where
       let mx : x % 256 ≡ x = omega arith in
       let my : y % 256 ≡ y = omega arith in
       let mz : z % 256 ≡ z = omega arith in
-      let say = say 1 x ((1, y) ∷ (1, z) ∷ []) at s hx (hy, (hz, tt)) (e ∙ rw (mx, my, mz)) in
-      rw (say .0, say .1 .0, say .1 .1 .0)
+      let read = nums-bytes 1 x ((1, y) ∷ (1, z) ∷ []) at s hx (hy, (hz, tt)) (e ∙ rw (mx, my, mz)) in
+      rw (read .0, read .1 .0, read .1 .1 .0)
   flags-again false at (TwoByte x y) (hx, hy) e =
       let mx : x % 256 ≡ x = omega arith in
       let my : y % 256 ≡ y = omega arith in
-      let say = say 1 x ((1, y) ∷ []) at s hx (hy, tt) (e ∙ rw (mx, my)) in
-      rw (say .0, say .1 .0)
+      let read = nums-bytes 1 x ((1, y) ∷ []) at s hx (hy, tt) (e ∙ rw (mx, my)) in
+      rw (read .0, read .1 .0)
   flags-again true at (TwoByte x y) h e = absurd h
   flags-again false at (ThreeByte x y z) h e = absurd h
 
@@ -150,8 +113,8 @@ module _ (s : List ℕ) where
   color-again : (has : Bool) (at : ℕ) (c : MaybeColor) → ColorHeld has c → (has ≡ true → take 6 (drop at s) ≡ colorBytes c) → colorAt has at s ≡ c
   unfolding colorAt
   color-again true at (some-color.Some c) (red, (green, blue)) e =
-      let say = say 2 (c .red) ((2, c .green) ∷ (2, c .blue) ∷ []) at s red (green, (blue, tt)) (e refl) in
-      rw (say .0, say .1 .0, say .1 .1 .0)
+      let read = nums-bytes 2 (c .red) ((2, c .green) ∷ (2, c .blue) ∷ []) at s red (green, (blue, tt)) (e refl) in
+      rw (read .0, read .1 .0, read .1 .1 .0)
   color-again false at some-color.None h e = refl
   color-again true at some-color.None h e = absurd h
   color-again false at (some-color.Some c) h e = absurd h
@@ -176,12 +139,12 @@ module _ (s : List ℕ) where
       let z : ℕ = patternOf binary32 (w .«z_t») (w .nans .«z_t») in
       let vs : List (ℕ × ℕ) = (8, w .«byte_offset_to_waveform_data») ∷ (4, w .«waveform_packet_size_in_bytes») ∷ (4, location) ∷ (4, x) ∷ (4, y) ∷ (4, z) ∷ [] in
       let small : w .«wave_packet_descriptor_index» % 256 ≡ w .«wave_packet_descriptor_index» = mod-eq-of-lt (h .index) in
-      let say =
-        say 1 (w .«wave_packet_descriptor_index») vs at s (h .index)
-        (h .offset, (h .size, (h .location .fits, (h .x .fits, (h .y .fits, (h .z .fits, tt))))))
-        (e refl ∙ rw small) in
-      let floats = say .1 .1 .1 in
-      rw (say .0, say .1 .0, say .1 .1 .0, f32-again (at + 13) _ _ (h .location) (floats .0), f32-again (at + 17) _ _ (h .x) (floats .1 .0), f32-again (at + 21) _ _ (h .y) (floats .1 .1 .0), f32-again (at + 25) _ _ (h .z) (floats .1 .1 .1 .0))
+      let read =
+      nums-bytes 1 (w .«wave_packet_descriptor_index») vs at s (h .index)
+      (h .offset, (h .size, (h .location .fits, (h .x .fits, (h .y .fits, (h .z .fits, tt))))))
+      (e refl ∙ rw small) in
+      let floats = read .1 .1 .1 in
+      rw (read .0, read .1 .0, read .1 .1 .0, f32-again (at + 13) _ _ (h .location) (floats .0), f32-again (at + 17) _ _ (h .x) (floats .1 .0), f32-again (at + 21) _ _ (h .y) (floats .1 .1 .0), f32-again (at + 25) _ _ (h .z) (floats .1 .1 .1 .0))
   waveform-again false at some-waveform.None h e = refl
   waveform-again true at some-waveform.None h e = absurd h
   waveform-again false at (some-waveform.Some w) h e = absurd h
@@ -213,9 +176,10 @@ module _ (f : Format) (p : Point) (e : List ℕ) (held : Held f p e) where
   joined-stand front rest [] follow = tt
   joined-stand front rest (x ∷ xs) (here, follow) =
       let next : length (front ++ fieldBytes f p e x) ≡ length front + sizeOf f x = length-append front (fieldBytes f p e x) ∙ ap (λ (n : ℕ). length front + n) (field-length x) in
-      let whole : (front ++ fieldBytes f p e x) ++ (joined f p e xs ++ rest) ≡ front ++ ((fieldBytes f p e x ++ joined f p e xs) ++ rest) = simp append-assoc in
-      ( rw (here, drop-at front ((fieldBytes f p e x ++ joined f p e xs) ++ rest) (length front) refl, append-assoc) (take-at (fieldBytes f p e x) (joined f p e xs ++ rest) (sizeOf f x) (field-length x))
-      , subst (λ (s : List ℕ). Stand s xs) whole (joined-stand (front ++ fieldBytes f p e x) rest xs (subst (λ (n : ℕ). Follow f n xs) (sym next) follow)))
+      let whole : (front ++ fieldBytes f p e x) ++ (joined f p e xs ++ rest) ≡ front ++ ((fieldBytes f p e x ++ joined f p e xs) ++ rest) = simp append-assoc in (
+        rw (here, drop-at front ((fieldBytes f p e x ++ joined f p e xs) ++ rest) (length front) refl, append-assoc) (take-at (fieldBytes f p e x) (joined f p e xs ++ rest) (sizeOf f x) (field-length x)),
+        subst (λ (s : List ℕ). Stand s xs) whole (joined-stand (front ++ fieldBytes f p e x) rest xs (subst (λ (n : ℕ). Follow f n xs) (sym next) follow)),
+      )
 
   -- a field that may be missing
   stand-only : (s : List ℕ) (b : Bool) (x : Field) (xs : List Field) → Stand s (only b x ++ xs) → (b ≡ true → fieldOf f x s ≡ fieldBytes f p e x) × Stand s xs
@@ -244,18 +208,25 @@ module _ (f : Format) (p : Point) (e : List ℕ) (held : Held f p e) where
     where
       s : List ℕ
       s = recordOf f p e ++ rest
+
       all : Stand s (fieldsOf f)
       all = joined-stand [] rest (fieldsOf f) (fields-follow f)
+
       middle : Stand s (UserData ∷ ScanAngle ∷ PointSourceId ∷ restOf f)
       middle = stand-middle s (f .«is_extended») (PointSourceId ∷ restOf f) (all .1 .1 .1 .1 .1)
+
       time : (f .«has_gps_time» ≡ true → fieldOf f GpsTime s ≡ fieldBytes f p e GpsTime) × Stand s afterTime
       time = stand-only s (f .«has_gps_time») GpsTime afterTime (middle .1 .1 .1)
+
       color : (f .«has_color» ≡ true → fieldOf f Color s ≡ fieldBytes f p e Color) × Stand s afterColor
       color = stand-only s (f .«has_color») Color afterColor (time .1)
+
       nir : (f .«has_nir» ≡ true → fieldOf f Nir s ≡ fieldBytes f p e Nir) × Stand s afterNir
       nir = stand-only s (f .«has_nir») Nir afterNir (color .1)
+
       waveform : (f .«has_waveform» ≡ true → fieldOf f Waveform s ≡ fieldBytes f p e Waveform) × Stand s (ExtraBytes ∷ [])
       waveform = stand-only s (f .«has_waveform») Waveform (ExtraBytes ∷ []) (nir .1)
+
       go : (x : Field) → hasOf f x ≡ true → fieldOf f x s ≡ fieldBytes f p e x
       go X h = all .0
       go Y h = all .1 .0
@@ -277,20 +248,20 @@ module _ (f : Format) (p : Point) (e : List ℕ) (held : Held f p e) where
       let s : List ℕ = recordOf f p e ++ rest in
       let at : (x : Field) → hasOf f x ≡ true → fieldOf f x s ≡ fieldBytes f p e x = written-at rest in
       λ i.
-        record {
-          x = signed-again s w32 4 0 (p .x) refl (held .x) (at X refl) i;
-          y = signed-again s w32 4 4 (p .y) refl (held .y) (at Y refl) i;
-          z = signed-again s w32 4 8 (p .z) refl (held .z) (at Z refl) i;
-          intensity = num-bytes 2 12 s (p .intensity) (held .intensity) (at Intensity refl) i;
-          flags = flags-again s (f .«is_extended») 14 (p .flags) (held .flags) (at Flags refl) i;
-          «scan_angle» = angle-again s (f .«is_extended») (placeOf f ScanAngle) (p .«scan_angle») (held .«scan_angle») (at ScanAngle refl) i;
-          «user_data» = byte-again s 17 (p .«user_data») (held .«user_data») (at UserData refl) i;
-          «point_source_id» = num-bytes 2 (placeOf f PointSourceId) s (p .«point_source_id») (held .«point_source_id») (at PointSourceId refl) i;
-          «gps_time» = time-again s (f .«has_gps_time») (placeOf f GpsTime) (p .«gps_time») (held .«gps_time») (at GpsTime) i;
-          color = color-again s (f .«has_color») (placeOf f Color) (p .color) (held .color) (at Color) i;
-          waveform = waveform-again s (f .«has_waveform») (placeOf f Waveform) (p .waveform) (held .waveform) (at Waveform) i;
-          nir = nir-again s (f .«has_nir») (placeOf f Nir) (p .nir) (held .nir) (at Nir) i;
-        }
+      record {
+        x = signed-again s w32 4 0 (p .x) refl (held .x) (at X refl) i;
+        y = signed-again s w32 4 4 (p .y) refl (held .y) (at Y refl) i;
+        z = signed-again s w32 4 8 (p .z) refl (held .z) (at Z refl) i;
+        intensity = num-bytes 2 12 s (p .intensity) (held .intensity) (at Intensity refl) i;
+        flags = flags-again s (f .«is_extended») 14 (p .flags) (held .flags) (at Flags refl) i;
+        «scan_angle» = angle-again s (f .«is_extended») (placeOf f ScanAngle) (p .«scan_angle») (held .«scan_angle») (at ScanAngle refl) i;
+        «user_data» = byte-again s 17 (p .«user_data») (held .«user_data») (at UserData refl) i;
+        «point_source_id» = num-bytes 2 (placeOf f PointSourceId) s (p .«point_source_id») (held .«point_source_id») (at PointSourceId refl) i;
+        «gps_time» = time-again s (f .«has_gps_time») (placeOf f GpsTime) (p .«gps_time») (held .«gps_time») (at GpsTime) i;
+        color = color-again s (f .«has_color») (placeOf f Color) (p .color) (held .color) (at Color) i;
+        waveform = waveform-again s (f .«has_waveform») (placeOf f Waveform) (p .waveform) (held .waveform) (at Waveform) i;
+        nir = nir-again s (f .«has_nir») (placeOf f Nir) (p .nir) (held .nir) (at Nir) i;
+      }
 
   pub extra-again : (rest : List ℕ) → fieldOf f ExtraBytes (recordOf f p e ++ rest) ≡ e
   extra-again rest = written-at rest ExtraBytes refl

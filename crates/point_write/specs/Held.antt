@@ -8,7 +8,6 @@ use lib.ListN.{length}
 use mir.Syntax.{w8, w16, w32}
 use mir.Val.{SFits}
 use Rattle.le.specs.Real.{patternOf, f32Of, f64Of, f64BitsOf}
-use Rattle.le.specs.declared.float.F32.{F32}
 use Rattle.le.specs.declared.float.F64.{F64}
 use Rattle.format.specs.declared.Format.{Format}
 use Rattle.flags.specs.declared.Flags as flags
