@@ -151,7 +151,7 @@ module _ (s : List ℕ) where
 
 module _ (f : Format) (p : Point) (e : List ℕ) (held : Held f p e) where
   -- each field has the table's size
-  field-length : (x : Field) → length (fieldBytes f p e x) ≡ sizeOf f x
+  pub field-length : (x : Field) → length (fieldBytes f p e x) ≡ sizeOf f x
   field-length X = refl
   field-length Y = refl
   field-length Z = refl

@@ -5,4 +5,5 @@ pub mod Answered
 pub mod Past
 pub mod Held
 pub mod Again
+pub mod Accepted
 pub mod Theorems

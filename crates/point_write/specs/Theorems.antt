@@ -17,6 +17,7 @@ use Rattle.point_write.specs.Answered.{Answered, answered, answered-writ
 use Rattle.point_write.specs.Past.{point-take, read-take, extra-take}
 use Rattle.point_write.specs.Held.{Held}
 use Rattle.point_write.specs.Again.{point-again, extra-again}
+use Rattle.point_write.specs.Accepted.{accepted-again}
 
 module _ (f : Format) (s : List ℕ) where
   -- "What a reader answers, written back, is the bytes read", in every format: a NaN's bits, NIR 0 and the extra bytes too.
@@ -44,10 +45,15 @@ module _ (f : Format) (s : List ℕ) where
 pub read-alike : (f : Format) (s t : List ℕ) → take (recordBytes f) s ≡ take (recordBytes f) t → readOf f s ≡ readOf f t
 read-alike f s t e = sym (read-never-past f s) ∙ ap (readOf f) e ∙ read-never-past f t
 
--- "What is written, read again, is the value", for a point that the format can hold, whatever stands after the record.
-module _ (f : Format) (p : Point) (e : List ℕ) (held : Held f p e) (rest : List ℕ) where
-  pub written-then-read : pointOf f (recordOf f p e ++ rest) ≡ p
-  written-then-read = point-again f p e held rest
+-- "What is written, read again, is the value", for a point that the format can hold.
+module _ (f : Format) (p : Point) (e : List ℕ) (held : Held f p e) where
+  -- The record itself, whatever stands after it.
+  pub written-then-read : (rest : List ℕ) → pointOf f (recordOf f p e ++ rest) ≡ p
+  written-then-read = point-again f p e held
 
-  pub extra-written-then-read : fieldOf f ExtraBytes (recordOf f p e ++ rest) ≡ e
-  extra-written-then-read = extra-again f p e held rest
+  pub extra-written-then-read : (rest : List ℕ) → fieldOf f ExtraBytes (recordOf f p e ++ rest) ≡ e
+  extra-written-then-read = extra-again f p e held
+
+  -- The same of the functions: where `write_to` does not refuse, `read_from` and `extra_bytes` answer what was written.
+  pub written-then-answered : (n : ℕ) (d left : List ℕ) → writtenOf f p e d ≡ (wrote.Bytes n, left) → (readOf f left ≡ Is p) × (extraOf f left ≡ e)
+  written-then-answered = accepted-again f p e held
