@@ -52,7 +52,7 @@ module _ (f : Format) (s : List ℕ) where
           }
       go (len.Refused refusal) e r = let z : _≡_ {A = ℕ} 0 1 = cc in absurd (omega arith)
 
-  extra-length : recordBytes f ≤ length s → length (fieldOf f ExtraBytes s) ≡ f .«extra_bytes»
+  pub extra-length : recordBytes f ≤ length s → length (fieldOf f ExtraBytes s) ≡ f .«extra_bytes»
   extra-length h = length-take-le (f .«extra_bytes») (drop (placeOf f ExtraBytes) s) (rw length-drop (omega (arith, record-end f)))
 
   -- an old format reads two bytes of flags, which fit

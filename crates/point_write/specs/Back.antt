@@ -1,5 +1,5 @@
 -- Field by field, what the reader finds is put back by the writer as the bytes it was found in.
-use Prim.Native.Nat.{ℕ, _+_, _%_, _≤_, _^_, _<_}
+use Prim.Native.Nat.{ℕ, _+_, _%_, _≤_, _^_}
 use mathlib.Core.Path.{_≡_, refl, ap, _∙_}
 use mathlib.Core.Bool.{Bool, true, false, cond}
 use mathlib.Core.List.{List, [], _∷_, _++_}
@@ -10,7 +10,7 @@ use lib.Ieee.{binary32}
 use lib.ListN.{length, take, drop}
 use lib.Seq.{take-add, drop-drop}
 use mir.Syntax.{Width, w8, w16, w32}
-use mir.Val.{bits, ofZ, toZ}
+use mir.Val.{Fits, bits, ofZ, toZ}
 use mir.ValLaws.{ofZ-toZ}
 use Rattle.le.specs.Le.{num, bytes, Bytes}
 use Rattle.le.specs.Laws.{num-lt, bytes-num, span-num}
@@ -35,11 +35,12 @@ nir-back n = go (eqb n 0) refl
     go false e = rw e
 
 module _ (s : List ℕ) (all : Bytes s) where
-  -- a signed number of w bits, read from n bytes
+  -- a number of n bytes is one of as many bits
+  pub num-fits : (w : Width) (n at : ℕ) → 256 ^ n ≡ 2 ^ bits w → Fits w (num n at s)
+  num-fits w n at e = record { fits = rw e at (num-lt n s at all) }
+
   signed-back : (w : Width) (n at : ℕ) → 256 ^ n ≡ 2 ^ bits w → at + n ≤ length s → bytes n (ofZ w (toZ w (num n at s))) ≡ take n (drop at s)
-  signed-back w n at e h =
-      let fits : num n at s < 2 ^ bits w = rw e at (num-lt n s at all) in
-      rw (ofZ-toZ w (num n at s) (record { fits = fits })) (bytes-num n at s all h)
+  signed-back w n at e h = rw (ofZ-toZ w (num n at s) (num-fits w n at e)) (bytes-num n at s all h)
 
   -- one byte is its own bytes
   byte-mod : (at : ℕ) → num 1 at s % 256 ≡ num 1 at s
@@ -56,7 +57,7 @@ module _ (s : List ℕ) (all : Bytes s) where
   angle-back : (c : Bool) (at : ℕ) → at + cond c 2 1 ≤ length s → cond c (bytes 2 (ofZ w16 (toScaled (angleAt c at s)))) (ofZ w8 (toRank (angleAt c at s)) ∷ []) ≡ take (cond c 2 1) (drop at s)
   unfolding angleAt
   angle-back true at h = signed-back w16 2 at refl h
-  angle-back false at h = rw (ofZ-toZ w8 (num 1 at s) (record { fits = num-lt 1 s at all })) (byte-back at h)
+  angle-back false at h = rw (ofZ-toZ w8 (num 1 at s) (num-fits w8 1 at refl)) (byte-back at h)
 
   -- what a format may lack, where it has it
   time-back : (has : Bool) (at : ℕ) → has ≡ true → at + 8 ≤ length s → timeBytes (timeAt has at s) ≡ take 8 (drop at s)
@@ -71,7 +72,7 @@ module _ (s : List ℕ) (all : Bytes s) where
   unfolding nirAt
   some-nir-back has at e h = rw e (nir-back (num 2 at s) ∙ bytes-num 2 at s all h)
 
-  f32-back : (at : ℕ) → patternOf binary32 (f32Of (num 4 at s) .value) (f32Of (num 4 at s) .nan) ≡ num 4 at s
+  pub f32-back : (at : ℕ) → patternOf binary32 (f32Of (num 4 at s) .value) (f32Of (num 4 at s) .nan) ≡ num 4 at s
   unfolding f32Of
   f32-back at = pattern-kept binary32 (num 4 at s) (num-lt 4 s at all)
 

@@ -1,8 +1,8 @@
 -- Laws of written records.
 use Prim.Native.Nat.{ℕ, _+_, _≤_}
-use mathlib.Core.Path.{_≡_, refl, ap, sym, _∙_}
+use mathlib.Core.Path.{_≡_, refl, ap, _∙_}
 use mathlib.Core.Bool.{Bool, true, false, cond}
-use mathlib.Core.List.{List, [], _∷_, _++_, append-assoc, append-nil}
+use mathlib.Core.List.{List, [], _∷_, _++_, append-nil}
 use native.Mathlib.Omega.{arith}
 use borrow.Author.Tests.{eq-eqb, le-ltb}
 use lib.ListN.{length, drop, length-append}
@@ -10,7 +10,7 @@ use Rattle.lent.specs.declared.Wrote.the-variants as Wrote
 use Rattle.format.specs.declared.Format.{Format}
 use Rattle.format.specs.declared.Field.{Field}
 use Rattle.format.specs.declared.Field.the-variants.{GpsTime, Color, Nir, Waveform, ExtraBytes}
-use Rattle.format.specs.Fields.{only, restOf, fieldsOf, placeOf, sizes}
+use Rattle.format.specs.Fields.{only, restOf, fieldsOf, sizes}
 use Rattle.format.specs.Laws.{sizes-append, sizes-only}
 use Rattle.flags.specs.Bytes.{twoBytesOf}
 use Rattle.flags.specs.declared.TwoBytes.the-variants.{Bytes}

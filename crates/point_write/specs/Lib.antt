@@ -4,6 +4,7 @@ pub mod Back
 pub mod Answered
 pub mod Past
 pub mod Held
+pub mod Found
 pub mod Again
 pub mod Accepted
 pub mod Theorems

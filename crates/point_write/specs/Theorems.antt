@@ -16,6 +16,7 @@ use Rattle.point_write.specs.Back.{record-back}
 use Rattle.point_write.specs.Answered.{Answered, answered, answered-written}
 use Rattle.point_write.specs.Past.{point-take, read-take, extra-take}
 use Rattle.point_write.specs.Held.{Held}
+use Rattle.point_write.specs.Found.{point-found}
 use Rattle.point_write.specs.Again.{point-again, extra-again}
 use Rattle.point_write.specs.Accepted.{accepted-again}
 
@@ -44,6 +45,10 @@ module _ (f : Format) (s : List ℕ) where
 -- So lists that agree on the record's bytes read alike.
 pub read-alike : (f : Format) (s t : List ℕ) → take (recordBytes f) s ≡ take (recordBytes f) t → readOf f s ≡ readOf f t
 read-alike f s t e = sym (read-never-past f s) ∙ ap (readOf f) e ∙ read-never-past f t
+
+-- Every point that is read is one that the format can hold, so the next holds of it.
+pub read-is-held : (f : Format) (s : List ℕ) → Bytes s → recordBytes f ≤ length s → Held f (pointOf f s) (fieldOf f ExtraBytes s)
+read-is-held f s all h = point-found s all f h
 
 -- "What is written, read again, is the value", for a point that the format can hold.
 module _ (f : Format) (p : Point) (e : List ℕ) (held : Held f p e) where
