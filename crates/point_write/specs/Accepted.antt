@@ -27,7 +27,8 @@ use Rattle.point.specs.Read.{readAfter, readOf, extraAfter, extraOf}
 use Rattle.point_write.specs.Write.{joined, recordOf, flaggedOf, sizedOf, writtenAfter, writtenOf}
 use Rattle.point_write.specs.Laws.{sized-extended, sized-legacy}
 use Rattle.point_write.specs.Held.{FlagsHeld, Held}
-use Rattle.point_write.specs.Again.{field-length, point-again, extra-again}
+use Rattle.point_write.specs.Places.{field-length}
+use Rattle.point_write.specs.Again.{point-again, extra-again}
 
 module _ (f : Format) (p : Point) (e : List ℕ) (held : Held f p e) where
   joined-length : (xs : List Field) → length (joined f p e xs) ≡ sizes f xs

@@ -1,26 +1,24 @@
--- Every field stands at its place in the record written, so that it is read again as it was.
-use Prim.Native.Nat.{ℕ, _+_, _%_, _<_, _^_}
-use mathlib.Core.Path.{_≡_, refl, ap, sym, subst, _∙_}
+-- A field that stands at its place is read as it was.
+use Prim.Native.Nat.{ℕ, _+_, _<_, _^_}
+use mathlib.Core.Path.{_≡_, refl, ap, _∙_}
 use mathlib.Core.Bool.{Bool, true, false, cond}
-use mathlib.Core.List.{List, [], _∷_, _++_, append-assoc}
+use mathlib.Core.List.{List, [], _∷_, _++_}
 use native.Mathlib.Nat.{mod-eq-of-lt}
 use native.Mathlib.Omega.{arith}
 use borrow.Author.Tests.{ne-eqb}
 use lib.Ieee.{Float, binary32}
 use lib.IntN.{ℤ}
-use lib.ListN.{length, take, drop, length-append}
-use lib.Seq.{take-at, drop-at}
+use lib.ListN.{take, drop}
 use mir.Syntax.{Width, w8, w16, w32}
 use mir.Val.{SFits, bits, ofZ, toZ}
 use mir.ValLaws.{ofZ-fits, toZ-ofZ}
 use Rattle.le.specs.Le.{num, bytes}
-use Rattle.le.specs.Laws.{num-bytes, nums-bytes}
+use Rattle.le.specs.Laws.{Fit, num-bytes, nums-bytes}
 use Rattle.le.specs.Real.{patternOf, f32Of, f64Of, f64BitsOf}
 use Rattle.format.specs.declared.Format.{Format}
 use Rattle.format.specs.declared.Field.{Field}
 use Rattle.format.specs.declared.Field.the-variants.{X, Y, Z, Intensity, Flags, UserData, ScanAngle, PointSourceId, GpsTime, Color, Nir, Waveform, ExtraBytes}
-use Rattle.format.specs.Fields.{only, restOf, fieldsOf, sizeOf, placeOf, Follow}
-use Rattle.format.specs.Laws.{fields-follow}
+use Rattle.format.specs.Fields.{placeOf}
 use Rattle.flags.specs.declared.Flags as flags
 use Rattle.flags.specs.declared.Flags.the-variants.{TwoByte, ThreeByte}
 use Rattle.flags.specs.Bytes.{twoBytesOf, threeBytesOf}
@@ -37,36 +35,9 @@ use Rattle.point.specs.declared.MaybeNir.{MaybeNir}
 use Rattle.point.specs.declared.MaybeNir.the-variants as some-nir
 use Rattle.point.specs.declared.Point.{Point}
 use Rattle.point.specs.Read.{fieldOf, flagsAt, angleAt, timeAt, colorAt, nirOf, nirAt, waveformAt, maybeWaveformAt, pointOf}
-use Rattle.point_write.specs.Write.{timeBytes, colorBytes, nirBytes, waveformBytes, fieldBytes, joined, recordOf, threeList, twoList}
-use Rattle.point_write.specs.Laws.{time-length, color-length, nir-length, waveform-length}
+use Rattle.point_write.specs.Write.{timeBytes, colorBytes, nirBytes, waveformBytes, fieldBytes, recordOf, threeList, twoList}
 use Rattle.point_write.specs.Held.{FlagsHeld, AngleHeld, TimeHeld, ColorHeld, NirHeld, WaveformHeld, F32Held, Held}
-
--- whether a format has a field
-abbrev hasOf : Format → Field → Bool
-hasOf f X = true
-hasOf f Y = true
-hasOf f Z = true
-hasOf f Intensity = true
-hasOf f Flags = true
-hasOf f UserData = true
-hasOf f ScanAngle = true
-hasOf f PointSourceId = true
-hasOf f GpsTime = f .«has_gps_time»
-hasOf f Color = f .«has_color»
-hasOf f Nir = f .«has_nir»
-hasOf f Waveform = f .«has_waveform»
-hasOf f ExtraBytes = true
-
-flags-length : (c : Bool) (fl : flags.Flags) → FlagsHeld c fl → length (cond c (threeList (threeBytesOf fl)) (twoList (twoBytesOf fl))) ≡ cond c 3 2
-unfolding twoBytesOf threeBytesOf
-flags-length true (ThreeByte a b c) h = refl
-flags-length false (TwoByte a b) h = refl
-flags-length true (TwoByte a b) h = absurd h
-flags-length false (ThreeByte a b c) h = absurd h
-
-one-or-two : (c : Bool) (n m : ℕ) → length (cond c (bytes 2 n) (m ∷ [])) ≡ cond c 2 1
-one-or-two true n m = refl
-one-or-two false n m = refl
+use Rattle.point_write.specs.Places.{hasOf, written-at}
 
 module _ (s : List ℕ) where
   signed-again : (w : Width) (n at : ℕ) (z : ℤ) → 2 ^ bits w ≡ 256 ^ n → SFits w z → take n (drop at s) ≡ bytes n (ofZ w z) → toZ w (num n at s) ≡ z
@@ -75,22 +46,16 @@ module _ (s : List ℕ) where
       ap (toZ w) (num-bytes n at s (ofZ w z) fits e) ∙ toZ-ofZ w z h
 
   byte-again : (at a : ℕ) → a < 256 → take 1 (drop at s) ≡ a ∷ [] → num 1 at s ≡ a
-  byte-again at a h e =
-      let small : a % 256 ≡ a = omega arith in
-      num-bytes 1 at s a h (e ∙ rw small)
+  byte-again at a h e = num-bytes 1 at s a h (e ∙ rw (mod-eq-of-lt h))
 
+  -- flags and angle of the format's kind
   flags-again : (c : Bool) (at : ℕ) (fl : flags.Flags) → FlagsHeld c fl → take (cond c 3 2) (drop at s) ≡ cond c (threeList (threeBytesOf fl)) (twoList (twoBytesOf fl)) → flagsAt c at s ≡ fl
   unfolding flagsAt twoBytesOf threeBytesOf
   flags-again true at (ThreeByte x y z) (hx, (hy, hz)) e =
-      let mx : x % 256 ≡ x = omega arith in
-      let my : y % 256 ≡ y = omega arith in
-      let mz : z % 256 ≡ z = omega arith in
-      let read = nums-bytes 1 x ((1, y) ∷ (1, z) ∷ []) at s hx (hy, (hz, tt)) (e ∙ rw (mx, my, mz)) in
+      let read = nums-bytes 1 x ((1, y) ∷ (1, z) ∷ []) at s hx (hy, (hz, tt)) (e ∙ rw (mod-eq-of-lt hx, mod-eq-of-lt hy, mod-eq-of-lt hz)) in
       rw (read .0, read .1 .0, read .1 .1 .0)
   flags-again false at (TwoByte x y) (hx, hy) e =
-      let mx : x % 256 ≡ x = omega arith in
-      let my : y % 256 ≡ y = omega arith in
-      let read = nums-bytes 1 x ((1, y) ∷ []) at s hx (hy, tt) (e ∙ rw (mx, my)) in
+      let read = nums-bytes 1 x ((1, y) ∷ []) at s hx (hy, tt) (e ∙ rw (mod-eq-of-lt hx, mod-eq-of-lt hy)) in
       rw (read .0, read .1 .0)
   flags-again true at (TwoByte x y) h e = absurd h
   flags-again false at (ThreeByte x y z) h e = absurd h
@@ -127,8 +92,8 @@ module _ (s : List ℕ) where
   nir-again false at some-nir.None h e = refl
   nir-again false at (some-nir.Some n) h e = absurd h
 
-  f32-again : (at : ℕ) (value : Float) (nan : ℕ) → F32Held value nan → num 4 at s ≡ patternOf binary32 value nan → f32Of (num 4 at s) ≡ record { value = value; nan = nan }
-  f32-again at value nan h e = ap f32Of e ∙ h .own
+  f32-again : {value : Float} {nan : ℕ} (at : ℕ) → F32Held value nan → num 4 at s ≡ patternOf binary32 value nan → f32Of (num 4 at s) ≡ record { value = value; nan = nan }
+  f32-again at h e = ap f32Of e ∙ h .own
 
   waveform-again : (has : Bool) (at : ℕ) (w : MaybeWaveform) → WaveformHeld has w → (has ≡ true → take 29 (drop at s) ≡ waveformBytes w) → maybeWaveformAt has at s ≡ w
   unfolding maybeWaveformAt waveformAt
@@ -138,115 +103,20 @@ module _ (s : List ℕ) where
       let y : ℕ = patternOf binary32 (w .«y_t») (w .nans .«y_t») in
       let z : ℕ = patternOf binary32 (w .«z_t») (w .nans .«z_t») in
       let vs : List (ℕ × ℕ) = (8, w .«byte_offset_to_waveform_data») ∷ (4, w .«waveform_packet_size_in_bytes») ∷ (4, location) ∷ (4, x) ∷ (4, y) ∷ (4, z) ∷ [] in
-      let small : w .«wave_packet_descriptor_index» % 256 ≡ w .«wave_packet_descriptor_index» = mod-eq-of-lt (h .index) in
-      let read =
-      nums-bytes 1 (w .«wave_packet_descriptor_index») vs at s (h .index)
-      (h .offset, (h .size, (h .location .fits, (h .x .fits, (h .y .fits, (h .z .fits, tt))))))
-      (e refl ∙ rw small) in
+      let fit : Fit vs = (h .offset, (h .size, (h .location .fits, (h .x .fits, (h .y .fits, (h .z .fits, tt)))))) in
+      let read = nums-bytes 1 (w .«wave_packet_descriptor_index») vs at s (h .index) fit (e refl ∙ rw (mod-eq-of-lt (h .index))) in
       let floats = read .1 .1 .1 in
-      rw (read .0, read .1 .0, read .1 .1 .0, f32-again (at + 13) _ _ (h .location) (floats .0), f32-again (at + 17) _ _ (h .x) (floats .1 .0), f32-again (at + 21) _ _ (h .y) (floats .1 .1 .0), f32-again (at + 25) _ _ (h .z) (floats .1 .1 .1 .0))
+      rw (read .0, read .1 .0, read .1 .1 .0, f32-again (at + 13) (h .location) (floats .0), f32-again (at + 17) (h .x) (floats .1 .0), f32-again (at + 21) (h .y) (floats .1 .1 .0), f32-again (at + 25) (h .z) (floats .1 .1 .1 .0))
   waveform-again false at some-waveform.None h e = refl
   waveform-again true at some-waveform.None h e = absurd h
   waveform-again false at (some-waveform.Some w) h e = absurd h
 
 module _ (f : Format) (p : Point) (e : List ℕ) (held : Held f p e) where
-  -- each field has the table's size
-  pub field-length : (x : Field) → length (fieldBytes f p e x) ≡ sizeOf f x
-  field-length X = refl
-  field-length Y = refl
-  field-length Z = refl
-  field-length Intensity = refl
-  field-length Flags = flags-length (f .«is_extended») (p .flags) (held .flags)
-  field-length UserData = refl
-  field-length ScanAngle = one-or-two (f .«is_extended») _ _
-  field-length PointSourceId = refl
-  field-length GpsTime = time-length f p e (p .«gps_time»)
-  field-length Color = color-length f p e (p .color)
-  field-length Nir = nir-length f p e (p .nir)
-  field-length Waveform = waveform-length f p e (p .waveform)
-  field-length ExtraBytes = held .extra
-
-  -- each of some fields stands in s at its place
-  abbrev Stand : List ℕ → List Field → Type 0
-  Stand s [] = Unit
-  Stand s (x ∷ xs) = (fieldOf f x s ≡ fieldBytes f p e x) × Stand s xs
-
-  joined-stand : (front rest : List ℕ) (xs : List Field) → Follow f (length front) xs → Stand (front ++ (joined f p e xs ++ rest)) xs
-  unfolding joined
-  joined-stand front rest [] follow = tt
-  joined-stand front rest (x ∷ xs) (here, follow) =
-      let next : length (front ++ fieldBytes f p e x) ≡ length front + sizeOf f x = length-append front (fieldBytes f p e x) ∙ ap (λ (n : ℕ). length front + n) (field-length x) in
-      let whole : (front ++ fieldBytes f p e x) ++ (joined f p e xs ++ rest) ≡ front ++ ((fieldBytes f p e x ++ joined f p e xs) ++ rest) = simp append-assoc in (
-        rw (here, drop-at front ((fieldBytes f p e x ++ joined f p e xs) ++ rest) (length front) refl, append-assoc) (take-at (fieldBytes f p e x) (joined f p e xs ++ rest) (sizeOf f x) (field-length x)),
-        subst (λ (s : List ℕ). Stand s xs) whole (joined-stand (front ++ fieldBytes f p e x) rest xs (subst (λ (n : ℕ). Follow f n xs) (sym next) follow)),
-      )
-
-  -- a field that may be missing
-  stand-only : (s : List ℕ) (b : Bool) (x : Field) (xs : List Field) → Stand s (only b x ++ xs) → (b ≡ true → fieldOf f x s ≡ fieldBytes f p e x) × Stand s xs
-  stand-only s true x xs st = ((λ h. st .0), st .1)
-  stand-only s false x xs st = ((λ h. let z : _≡_ {A = ℕ} 0 1 = cc in absurd (omega arith)), st)
-
-  -- angle and user data, in either order
-  stand-middle : (s : List ℕ) (c : Bool) (xs : List Field) → Stand s (cond c (UserData ∷ ScanAngle ∷ []) (ScanAngle ∷ UserData ∷ []) ++ xs) → Stand s (UserData ∷ ScanAngle ∷ xs)
-  stand-middle s true xs st = st
-  stand-middle s false xs st = (st .1 .0, (st .0, st .1 .1))
-
-  -- what stands after the time, the colour and the NIR
-  abbrev afterNir : List Field
-  afterNir = only (f .«has_waveform») Waveform ++ (ExtraBytes ∷ [])
-
-  abbrev afterColor : List Field
-  afterColor = only (f .«has_nir») Nir ++ afterNir
-
-  abbrev afterTime : List Field
-  afterTime = only (f .«has_color») Color ++ afterColor
-
-  -- each field that the format has stands at its place
-  pub written-at : (rest : List ℕ) (x : Field) → hasOf f x ≡ true → fieldOf f x (recordOf f p e ++ rest) ≡ fieldBytes f p e x
-  unfolding recordOf fieldsOf
-  written-at rest x = go x
-    where
-      s : List ℕ
-      s = recordOf f p e ++ rest
-
-      all : Stand s (fieldsOf f)
-      all = joined-stand [] rest (fieldsOf f) (fields-follow f)
-
-      middle : Stand s (UserData ∷ ScanAngle ∷ PointSourceId ∷ restOf f)
-      middle = stand-middle s (f .«is_extended») (PointSourceId ∷ restOf f) (all .1 .1 .1 .1 .1)
-
-      time : (f .«has_gps_time» ≡ true → fieldOf f GpsTime s ≡ fieldBytes f p e GpsTime) × Stand s afterTime
-      time = stand-only s (f .«has_gps_time») GpsTime afterTime (middle .1 .1 .1)
-
-      color : (f .«has_color» ≡ true → fieldOf f Color s ≡ fieldBytes f p e Color) × Stand s afterColor
-      color = stand-only s (f .«has_color») Color afterColor (time .1)
-
-      nir : (f .«has_nir» ≡ true → fieldOf f Nir s ≡ fieldBytes f p e Nir) × Stand s afterNir
-      nir = stand-only s (f .«has_nir») Nir afterNir (color .1)
-
-      waveform : (f .«has_waveform» ≡ true → fieldOf f Waveform s ≡ fieldBytes f p e Waveform) × Stand s (ExtraBytes ∷ [])
-      waveform = stand-only s (f .«has_waveform») Waveform (ExtraBytes ∷ []) (nir .1)
-
-      go : (x : Field) → hasOf f x ≡ true → fieldOf f x s ≡ fieldBytes f p e x
-      go X h = all .0
-      go Y h = all .1 .0
-      go Z h = all .1 .1 .0
-      go Intensity h = all .1 .1 .1 .0
-      go Flags h = all .1 .1 .1 .1 .0
-      go UserData h = middle .0
-      go ScanAngle h = middle .1 .0
-      go PointSourceId h = middle .1 .1 .0
-      go GpsTime h = time .0 h
-      go Color h = color .0 h
-      go Nir h = nir .0 h
-      go Waveform h = waveform .0 h
-      go ExtraBytes h = waveform .1 .0
-
   pub point-again : (rest : List ℕ) → pointOf f (recordOf f p e ++ rest) ≡ p
   unfolding pointOf
   point-again rest =
       let s : List ℕ = recordOf f p e ++ rest in
-      let at : (x : Field) → hasOf f x ≡ true → fieldOf f x s ≡ fieldBytes f p e x = written-at rest in
+      let at : (x : Field) → hasOf f x ≡ true → fieldOf f x s ≡ fieldBytes f p e x = written-at f p e held rest in
       λ i.
       record {
         x = signed-again s w32 4 0 (p .x) refl (held .x) (at X refl) i;
@@ -264,4 +134,4 @@ module _ (f : Format) (p : Point) (e : List ℕ) (held : Held f p e) where
       }
 
   pub extra-again : (rest : List ℕ) → fieldOf f ExtraBytes (recordOf f p e ++ rest) ≡ e
-  extra-again rest = written-at rest ExtraBytes refl
+  extra-again rest = written-at f p e held rest ExtraBytes refl

@@ -5,6 +5,7 @@ pub mod Answered
 pub mod Past
 pub mod Held
 pub mod Found
+pub mod Places
 pub mod Again
 pub mod Accepted
 pub mod Theorems
