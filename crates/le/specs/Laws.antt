@@ -1,12 +1,12 @@
 -- Laws of little-endian numbers, each once over the width.
 use Prim.Native.Nat.{ℕ, zero, suc, _+_, _*_, _/_, _%_, _^_, _<_, _≤_}
 use mathlib.Core.Path.{_≡_, refl, ap, sym, _∙_}
-use mathlib.Core.List.{List, [], _∷_, _++_}
-use native.Mathlib.Nat.{zero-add, suc-add, pow-succ', mul-assoc, add-zero, div-div-eq-div-mul}
+use mathlib.Core.List.{List, [], _∷_, _++_, append-nil}
+use native.Mathlib.Nat.{zero-add, suc-add, pow-succ', mul-assoc, add-assoc, add-zero, div-div-eq-div-mul}
 use native.Mathlib.Numerals.{one-add}
 use native.Mathlib.Omega.{arith}
-use lib.ListN.{getD, take, drop, length, drop-of-length-le}
-use lib.Seq.{drop-drop, getD-drop}
+use lib.ListN.{getD, take, drop, length, length-drop, drop-of-length-le}
+use lib.Seq.{drop-drop, getD-drop, getD-take, take-add, take-take, take-at, drop-at}
 use Rattle.le.specs.Le.{le, num, bytes, bytesFrom, Bytes}
 
 -- the bytes of a number are those of its low part and of its high part
@@ -79,3 +79,87 @@ bytes-le (suc w) (x ∷ s) b h =
     let low : (x + 256 * le w s) % 256 ≡ x = omega (arith, b 0) in
     let high : (x + 256 * le w s) / 256 ≡ le w s = omega (arith, b 0) in
     rw (bytes-suc w (x + 256 * le w s), low, high) (ap (λ (t : List ℕ). x ∷ t) (bytes-le w s (λ k. b (suc k)) (omega arith)))
+
+-- writing the number at a place gives the bytes there back
+pub bytes-num : (w at : ℕ) (s : List ℕ) → Bytes s → at + w ≤ length s → bytes w (num w at s) ≡ take w (drop at s)
+unfolding num
+bytes-num w at s b h = bytes-le w (drop at s) (λ k. rw getD-drop (b (at + k))) (rw length-drop (omega arith))
+
+-- how many bytes numbers of these widths take, one after the other
+abbrev pub total : List ℕ → ℕ
+total [] = 0
+total (w ∷ ws) = w + total ws
+
+-- the bytes of those that s has from k past `at` on
+abbrev pub spanFrom : List ℕ → ℕ → List ℕ → ℕ → List ℕ
+spanFrom [] at s k = []
+spanFrom (w ∷ ws) at s k = bytes w (num w (at + k) s) ++ spanFrom ws at s (k + w)
+
+span-from : (ws : List ℕ) (at : ℕ) (s : List ℕ) (k : ℕ) → Bytes s → at + k + total ws ≤ length s → spanFrom ws at s k ≡ take (total ws) (drop (at + k) s)
+span-from [] at s k b h = refl
+span-from (w ∷ ws) at s k b h =
+    rw (bytes-num w (at + k) s b (omega arith), span-from ws at s (k + w) b (omega arith), take-add, drop-drop, add-assoc)
+
+-- numbers read one after the other, each put back, are the bytes that they were read from
+pub span-num : (w : ℕ) (ws : List ℕ) (at : ℕ) (s : List ℕ) → Bytes s → at + (w + total ws) ≤ length s → bytes w (num w at s) ++ spanFrom ws at s w ≡ take (w + total ws) (drop at s)
+span-num w ws at s b h = rw (bytes-num w at s b (omega arith), span-from ws at s w b (omega arith), take-add, drop-drop)
+
+-- a number is what its own bytes say
+le-same : (w : ℕ) (s t : List ℕ) → ((k : ℕ) → k < w → getD s k 0 ≡ getD t k 0) → le w s ≡ le w t
+unfolding le
+le-same zero s t h = refl
+le-same (suc w) s t h =
+    let rest : le w (drop 1 s) ≡ le w (drop 1 t) = le-same w (drop 1 s) (drop 1 t) (λ k l. rw (getD-drop 1 s, getD-drop 1 t) (h (1 + k) (omega arith))) in
+    rw (h 0 (omega arith), rest)
+
+-- so what stands past them does not matter
+pub num-take : (w at : ℕ) (s : List ℕ) (n : ℕ) → at + w ≤ n → num w at (take n s) ≡ num w at s
+unfolding num
+num-take w at s n h =
+    le-same w (drop at (take n s)) (drop at s) (λ k l. rw (getD-drop at (take n s), getD-drop at s) (getD-take n s (at + k) 0 (omega arith)))
+
+-- the number at a place where its bytes stand
+pub num-bytes : (w at : ℕ) (s : List ℕ) (x : ℕ) → x < 256 ^ w → take w (drop at s) ≡ bytes w x → num w at s ≡ x
+unfolding num
+num-bytes w at s x h e =
+    le-same w (drop at s) (take w (drop at s)) (λ k l. sym (getD-take w (drop at s) k 0 l))
+    ∙ ap (le w) (e ∙ sym (append-nil (bytes w x))) ∙ le-bytes w x [] h
+
+-- the two parts of what is taken
+take-split : (w m : ℕ) (l xs ys : List ℕ) → length xs ≡ w → take (w + m) l ≡ xs ++ ys → (take w l ≡ xs) × (take m (drop w l) ≡ ys)
+take-split w m l xs ys h e =
+    let front : take w l ≡ xs = sym (take-take w (w + m) l (omega arith)) ∙ ap (take w) e ∙ take-at xs ys w h in
+    let both : xs ++ take m (drop w l) ≡ xs ++ ys = rw (take-add, front) at e in
+    (front, sym (drop-at xs (take m (drop w l)) w h) ∙ ap (drop w) both ∙ drop-at xs ys w h)
+
+-- numbers one after the other, each as its width and its value: how many bytes they take
+abbrev pub widths : List (ℕ × ℕ) → ℕ
+widths [] = 0
+widths ((w, x) ∷ vs) = w + widths vs
+
+-- those bytes
+abbrev pub theirBytes : List (ℕ × ℕ) → List ℕ
+theirBytes [] = []
+theirBytes ((w, x) ∷ vs) = bytes w x ++ theirBytes vs
+
+-- each value fits its width
+abbrev pub Fit : List (ℕ × ℕ) → Type 0
+Fit [] = Unit
+Fit ((w, x) ∷ vs) = (x < 256 ^ w) × Fit vs
+
+-- each is the number that s has in its place, from k past `at` on
+abbrev pub Say : List (ℕ × ℕ) → ℕ → List ℕ → ℕ → Type 0
+Say [] at s k = Unit
+Say ((w, x) ∷ vs) at s k = (num w (at + k) s ≡ x) × Say vs at s (k + w)
+
+nums-from : (vs : List (ℕ × ℕ)) (at : ℕ) (s : List ℕ) (k : ℕ) → Fit vs → take (widths vs) (drop (at + k) s) ≡ theirBytes vs → Say vs at s k
+nums-from [] at s k fit e = tt
+nums-from ((w, x) ∷ vs) at s k (h, fit) e =
+    let parts = take-split w (widths vs) (drop (at + k) s) (bytes w x) (theirBytes vs) (length-bytes w x) e in
+    (num-bytes w (at + k) s x h (parts .0), nums-from vs at s (k + w) fit (rw (drop-drop, add-assoc) at (parts .1)))
+
+-- numbers whose bytes stand one after the other are read from them
+pub nums-bytes : (w x : ℕ) (vs : List (ℕ × ℕ)) (at : ℕ) (s : List ℕ) → x < 256 ^ w → Fit vs → take (w + widths vs) (drop at s) ≡ bytes w x ++ theirBytes vs → (num w at s ≡ x) × Say vs at s w
+nums-bytes w x vs at s h fit e =
+    let parts = take-split w (widths vs) (drop at s) (bytes w x) (theirBytes vs) (length-bytes w x) e in
+    (num-bytes w at s x h (parts .0), nums-from vs at s w fit (rw drop-drop at (parts .1)))

@@ -1,8 +1,8 @@
 -- Laws of written records.
 use Prim.Native.Nat.{ℕ, _+_, _≤_}
-use mathlib.Core.Path.{_≡_, refl, ap, sym, _∙_}
+use mathlib.Core.Path.{_≡_, refl, ap, _∙_}
 use mathlib.Core.Bool.{Bool, true, false, cond}
-use mathlib.Core.List.{List, [], _∷_, _++_, append-assoc, append-nil}
+use mathlib.Core.List.{List, [], _∷_, _++_, append-nil}
 use native.Mathlib.Omega.{arith}
 use borrow.Author.Tests.{eq-eqb, le-ltb}
 use lib.ListN.{length, drop, length-append}
@@ -10,7 +10,7 @@ use Rattle.lent.specs.declared.Wrote.the-variants as Wrote
 use Rattle.format.specs.declared.Format.{Format}
 use Rattle.format.specs.declared.Field.{Field}
 use Rattle.format.specs.declared.Field.the-variants.{GpsTime, Color, Nir, Waveform, ExtraBytes}
-use Rattle.format.specs.Fields.{only, restOf, fieldsOf, placeOf, sizes}
+use Rattle.format.specs.Fields.{only, restOf, fieldsOf, sizes}
 use Rattle.format.specs.Laws.{sizes-append, sizes-only}
 use Rattle.flags.specs.Bytes.{twoBytesOf}
 use Rattle.flags.specs.declared.TwoBytes.the-variants.{Bytes}
@@ -61,19 +61,19 @@ module _ (f : Format) (p : Point) (e : List ℕ) where
   legacy-is a b h t = rw (h, t)
 
   -- each field after the source id takes the table's bytes
-  time-length : (t : MaybeTime) → length (timeBytes t) ≡ 8
+  pub time-length : (t : MaybeTime) → length (timeBytes t) ≡ 8
   time-length (some-time.Some t) = refl
   time-length some-time.None = refl
 
-  color-length : (c : MaybeColor) → length (colorBytes c) ≡ 6
+  pub color-length : (c : MaybeColor) → length (colorBytes c) ≡ 6
   color-length (some-color.Some c) = refl
   color-length some-color.None = refl
 
-  nir-length : (n : MaybeNir) → length (nirBytes n) ≡ 2
+  pub nir-length : (n : MaybeNir) → length (nirBytes n) ≡ 2
   nir-length (some-nir.Some n) = refl
   nir-length some-nir.None = refl
 
-  waveform-length : (w : MaybeWaveform) → length (waveformBytes w) ≡ 29
+  pub waveform-length : (w : MaybeWaveform) → length (waveformBytes w) ≡ 29
   waveform-length (some-waveform.Some w) = refl
   waveform-length some-waveform.None = refl
 

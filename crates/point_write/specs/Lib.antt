@@ -1,2 +1,11 @@
 pub mod Write
 pub mod Laws
+pub mod Back
+pub mod Answered
+pub mod Past
+pub mod Held
+pub mod Found
+pub mod Places
+pub mod Again
+pub mod Accepted
+pub mod Theorems

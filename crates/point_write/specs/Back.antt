@@ -1,0 +1,127 @@
+-- Field by field, what the reader finds is put back by the writer as the bytes it was found in.
+use Prim.Native.Nat.{ℕ, _+_, _%_, _≤_, _^_}
+use mathlib.Core.Path.{_≡_, refl, ap, _∙_}
+use mathlib.Core.Bool.{Bool, true, false, cond}
+use mathlib.Core.List.{List, [], _∷_, _++_}
+use native.Mathlib.Omega.{arith}
+use borrow.Author.Tests.{eqb-true}
+use lib.Dec.{eqb}
+use lib.Ieee.{binary32}
+use lib.ListN.{length, take, drop}
+use lib.Seq.{take-add, drop-drop}
+use mir.Syntax.{Width, w8, w16, w32}
+use mir.Val.{Fits, bits, ofZ, toZ}
+use mir.ValLaws.{ofZ-toZ}
+use Rattle.le.specs.Le.{num, bytes, Bytes}
+use Rattle.le.specs.Laws.{num-lt, bytes-num, span-num}
+use Rattle.le.specs.Real.{patternOf, f32Of, pattern-kept, f64-kept}
+use Rattle.format.specs.declared.Format.{Format}
+use Rattle.format.specs.declared.Field.{Field}
+use Rattle.format.specs.declared.Field.the-variants.{UserData, ScanAngle, PointSourceId, GpsTime, Color, Nir, Waveform, ExtraBytes}
+use Rattle.format.specs.Fields.{only, restOf, fieldsOf, sizeOf, placeOf, Follow, sizes, recordBytes}
+use Rattle.format.specs.Laws.{fields-follow}
+use Rattle.flags.specs.Bytes.{twoBytesOf, threeBytesOf}
+use Rattle.angle.specs.Angle.{toRank, toScaled}
+use Rattle.point.specs.Read.{fieldOf, flagsAt, angleAt, timeAt, colorAt, nirOf, nirAt, waveformAt, maybeWaveformAt, pointOf}
+use Rattle.point_write.specs.Write.{timeBytes, colorBytes, nirBytes, waveformBytes, threeList, twoList, fieldBytes, joined, recordOf}
+
+-- NIR 0 reads as missing, and missing is written as 0
+nir-back : (n : ℕ) → nirBytes (nirOf n) ≡ bytes 2 n
+unfolding nirOf
+nir-back n = go (eqb n 0) refl
+  where
+    go : (t : Bool) → eqb n 0 ≡ t → nirBytes (nirOf n) ≡ bytes 2 n
+    go true e = rw (eqb-true n 0 e)
+    go false e = rw e
+
+module _ (s : List ℕ) (all : Bytes s) where
+  -- a number of n bytes is one of as many bits
+  pub num-fits : (w : Width) (n at : ℕ) → 256 ^ n ≡ 2 ^ bits w → Fits w (num n at s)
+  num-fits w n at e = record { fits = rw e at (num-lt n s at all) }
+
+  signed-back : (w : Width) (n at : ℕ) → 256 ^ n ≡ 2 ^ bits w → at + n ≤ length s → bytes n (ofZ w (toZ w (num n at s))) ≡ take n (drop at s)
+  signed-back w n at e h = rw (ofZ-toZ w (num n at s) (num-fits w n at e)) (bytes-num n at s all h)
+
+  -- one byte is its own bytes
+  byte-mod : (at : ℕ) → num 1 at s % 256 ≡ num 1 at s
+  byte-mod at = omega (arith, num-lt 1 s at all)
+
+  byte-back : (at : ℕ) → at + 1 ≤ length s → num 1 at s ∷ [] ≡ take 1 (drop at s)
+  byte-back at h = simp byte-mod at (bytes-num 1 at s all h)
+
+  flags-back : (c : Bool) (at : ℕ) → at + cond c 3 2 ≤ length s → cond c (threeList (threeBytesOf (flagsAt c at s))) (twoList (twoBytesOf (flagsAt c at s))) ≡ take (cond c 3 2) (drop at s)
+  unfolding flagsAt threeBytesOf twoBytesOf
+  flags-back true at h = simp byte-mod at (span-num 1 (1 ∷ 1 ∷ []) at s all h)
+  flags-back false at h = simp byte-mod at (span-num 1 (1 ∷ []) at s all h)
+
+  angle-back : (c : Bool) (at : ℕ) → at + cond c 2 1 ≤ length s → cond c (bytes 2 (ofZ w16 (toScaled (angleAt c at s)))) (ofZ w8 (toRank (angleAt c at s)) ∷ []) ≡ take (cond c 2 1) (drop at s)
+  unfolding angleAt
+  angle-back true at h = signed-back w16 2 at refl h
+  angle-back false at h = rw (ofZ-toZ w8 (num 1 at s) (num-fits w8 1 at refl)) (byte-back at h)
+
+  -- what a format may lack, where it has it
+  time-back : (has : Bool) (at : ℕ) → has ≡ true → at + 8 ≤ length s → timeBytes (timeAt has at s) ≡ take 8 (drop at s)
+  unfolding timeAt
+  time-back has at e h = rw (e, f64-kept (num 8 at s) (num-lt 8 s at all)) (bytes-num 8 at s all h)
+
+  color-back : (has : Bool) (at : ℕ) → has ≡ true → at + 6 ≤ length s → colorBytes (colorAt has at s) ≡ take 6 (drop at s)
+  unfolding colorAt
+  color-back has at e h = rw e (span-num 2 (2 ∷ 2 ∷ []) at s all h)
+
+  some-nir-back : (has : Bool) (at : ℕ) → has ≡ true → at + 2 ≤ length s → nirBytes (nirAt has at s) ≡ take 2 (drop at s)
+  unfolding nirAt
+  some-nir-back has at e h = rw e (nir-back (num 2 at s) ∙ bytes-num 2 at s all h)
+
+  pub f32-back : (at : ℕ) → patternOf binary32 (f32Of (num 4 at s) .value) (f32Of (num 4 at s) .nan) ≡ num 4 at s
+  unfolding f32Of
+  f32-back at = pattern-kept binary32 (num 4 at s) (num-lt 4 s at all)
+
+  waveform-back : (has : Bool) (at : ℕ) → has ≡ true → at + 29 ≤ length s → waveformBytes (maybeWaveformAt has at s) ≡ take 29 (drop at s)
+  unfolding maybeWaveformAt waveformAt
+  waveform-back has at e h = rw e (simp f32-back (rw (byte-mod at) at (span-num 1 (8 ∷ 4 ∷ 4 ∷ 4 ∷ 4 ∷ 4 ∷ []) at s all h)))
+
+module _ (s : List ℕ) (all : Bytes s) (f : Format) where
+  -- the bytes of a field of the point read
+  abbrev putBack : Field → List ℕ
+  putBack x = fieldBytes f (pointOf f s) (fieldOf f ExtraBytes s) x
+
+  -- each of some fields is put back, where its bytes are there
+  abbrev Back : List Field → Type 0
+  Back [] = Unit
+  Back (x ∷ xs) = (placeOf f x + sizeOf f x ≤ length s → putBack x ≡ fieldOf f x s) × Back xs
+
+  -- fields that stand one after the other, each put back, are the bytes from the first on
+  joined-back : (xs : List Field) (at : ℕ) → Follow f at xs → Back xs → at + sizes f xs ≤ length s → joined f (pointOf f s) (fieldOf f ExtraBytes s) xs ≡ take (sizes f xs) (drop at s)
+  unfolding joined sizes
+  joined-back [] at follow back h = refl
+  joined-back (x ∷ xs) at (here, follow) (back, backs) h =
+      let first : putBack x ≡ take (sizeOf f x) (drop at s) = back (omega arith) ∙ ap (λ (n : ℕ). take (sizeOf f x) (drop n s)) here in
+      rw (take-add, drop-drop, first, joined-back xs (at + sizeOf f x) follow backs (omega arith))
+
+  -- a field that may be missing
+  back-only : (b : Bool) (x : Field) (xs : List Field) → (b ≡ true → placeOf f x + sizeOf f x ≤ length s → putBack x ≡ fieldOf f x s) → Back xs → Back (only b x ++ xs)
+  back-only true x xs back backs = (back refl, backs)
+  back-only false x xs back backs = backs
+
+  rest-back : Back (restOf f)
+  unfolding pointOf
+  rest-back =
+      back-only (f .«has_gps_time») GpsTime _ (time-back s all (f .«has_gps_time») (placeOf f GpsTime))
+      (back-only (f .«has_color») Color _ (color-back s all (f .«has_color») (placeOf f Color))
+      (back-only (f .«has_nir») Nir _ (some-nir-back s all (f .«has_nir») (placeOf f Nir))
+      (back-only (f .«has_waveform») Waveform _ (waveform-back s all (f .«has_waveform») (placeOf f Waveform)) ((λ h. refl), tt))))
+
+  -- angle and user data in either order
+  middle-back : (c : Bool) → Back (cond c (UserData ∷ ScanAngle ∷ []) (ScanAngle ∷ UserData ∷ []) ++ (PointSourceId ∷ restOf f))
+  unfolding pointOf
+  middle-back true = (byte-back s all 17, (angle-back s all (f .«is_extended») (placeOf f ScanAngle), (bytes-num 2 (placeOf f PointSourceId) s all, rest-back)))
+  middle-back false = (angle-back s all (f .«is_extended») (placeOf f ScanAngle), (byte-back s all 17, (bytes-num 2 (placeOf f PointSourceId) s all, rest-back)))
+
+  fields-back : Back (fieldsOf f)
+  unfolding pointOf fieldsOf
+  fields-back =
+      (signed-back s all w32 4 0 refl, (signed-back s all w32 4 4 refl, (signed-back s all w32 4 8 refl, (bytes-num 2 12 s all, (flags-back s all (f .«is_extended») 14, middle-back (f .«is_extended»))))))
+
+  pub record-back : recordBytes f ≤ length s → recordOf f (pointOf f s) (fieldOf f ExtraBytes s) ≡ take (recordBytes f) s
+  unfolding recordOf recordBytes
+  record-back h = joined-back (fieldsOf f) 0 (fields-follow f) fields-back (omega arith)
