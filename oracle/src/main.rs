@@ -9,6 +9,8 @@ mod call;
 mod capi;
 mod flags;
 mod format;
+mod point;
+mod records;
 mod replay;
 mod report;
 
@@ -21,6 +23,7 @@ fn compare(folder: &Path, write: bool) -> io::Result<bool> {
     format::compare(&mut tally);
     flags::compare(&mut tally);
     angle::compare(&mut tally);
+    point::compare(&mut tally);
     replay::compare(&mut tally, folder, write)?;
     Ok(tally.agreed())
 }
