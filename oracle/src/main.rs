@@ -1,20 +1,6 @@
-//! Puts the same questions to the published Rust and to the port, and counts where they differ.
-//!
-//! A module for each subject holds its calls and says over which inputs they are compared. A new
-//! subject adds its declarations to `capi`, a module beside these, and a line to `compare`.
+//! Runs every comparison and says whether nothing differed.
 
-mod angle;
-mod answer;
-mod call;
-mod capi;
-mod flags;
-mod format;
-mod point;
-mod records;
-mod replay;
-mod report;
-
-use report::Tally;
+use oracle::{angle, flags, format, point, replay, report::Tally};
 use std::{env, io, path::Path, process::ExitCode};
 
 /// Compares everything. `folder` is where the replay list lies.

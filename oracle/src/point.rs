@@ -22,6 +22,8 @@ const BEFORE: u64 = 0xa5a5_a5a5_a5a5_a5a5;
 const BEFORE_BYTE: u8 = 0xa5;
 
 /// The 24 numbers that stand for a point. What is missing is zeros.
+// Inlined, as is `point`, so that bench/ can time the Rust at its best.
+#[inline]
 pub fn numbers(point: &Point) -> Numbers {
     // Taken apart in full, so that a field of the Rust's can't be left out unnoticed. The extra
     // bytes have calls of their own.
@@ -81,6 +83,7 @@ pub fn numbers(point: &Point) -> Numbers {
 
 /// The point that 24 numbers stand for: of a number that is too wide the low bits count, and any
 /// number but 0 says that a part is there.
+#[inline]
 pub fn point(n: &Numbers, extra: &[u8]) -> Point {
     let f32_at = |k: usize| f32::from_bits(n[k] as u32);
     Point {
