@@ -23,7 +23,7 @@ pub fn scaled(n: i16) -> u32 {
 }
 
 /// The angle that a word stands for.
-fn angle(word: u32) -> ScanAngle {
+pub fn angle(word: u32) -> ScanAngle {
     match word >> 16 {
         1 => ScanAngle::Scaled(word as u16 as i16),
         _ => ScanAngle::Rank(word as u8 as i8),
@@ -31,7 +31,7 @@ fn angle(word: u32) -> ScanAngle {
 }
 
 /// The word that stands for an angle.
-fn word(angle: ScanAngle) -> u32 {
+pub fn word(angle: ScanAngle) -> u32 {
     match angle {
         ScanAngle::Rank(n) => rank(n),
         ScanAngle::Scaled(n) => scaled(n),

@@ -1,6 +1,6 @@
-//! The port: what the static library libcapi.a exports.
+//! The port: what the static libraries libcapi.a and libcapi_point.a export.
 //!
-//! `rt staticlib capi` proves the crate and writes the library; the script `run` says where it is.
+//! `rt staticlib` proves a crate and writes its library; the script `run` says where they are.
 //! Nothing checks these declarations against the Rattle source: what changes there is changed here
 //! by hand.
 
@@ -8,6 +8,9 @@ use crate::answer::Answer;
 
 /// Number, value and record number.
 pub type Row = [u64; 3];
+
+/// What stands for a point, as the crate `capi_point` lists it.
+pub type Numbers = [u64; 24];
 
 // Every function here is total: it takes numbers, or a borrowed row that it fills. So each is
 // declared safe. A bool is declared as the byte that carries it: a byte other than 0 and 1 is then
@@ -46,6 +49,52 @@ unsafe extern "C" {
     pub safe fn las_angle_from_degrees(degrees: f32) -> u32;
     pub safe fn las_angle_eq(angle: u32, other: u32) -> u8;
     pub safe fn las_angle_default() -> u32;
+}
+
+// A slice crosses as its pointer and its length: that the two belong together is what makes these
+// unsafe, and what the functions below see to.
+#[link(name = "capi_point", kind = "static")]
+unsafe extern "C" {
+    fn las_point_read(s: *const u8, len: usize, format: u32, row: &mut Row, numbers: &mut Numbers);
+    fn las_point_extra(s: *const u8, len: usize, format: u32, part: &mut [u64; 2]);
+    fn las_point_write(
+        numbers: &Numbers,
+        extra: *const u8,
+        extra_len: usize,
+        format: u32,
+        dst: *mut u8,
+        dst_len: usize,
+        row: &mut Row,
+    );
+}
+
+pub fn point_read(s: &[u8], format: u32, row: &mut Row, numbers: &mut Numbers) {
+    // SAFETY: pointer and length are those of one borrowed slice.
+    unsafe { las_point_read(s.as_ptr(), s.len(), format, row, numbers) }
+}
+
+/// The start and the length of the extra bytes. They start out as words that no answer has.
+pub fn point_extra(s: &[u8], format: u32) -> [u64; 2] {
+    let mut part = [u64::MAX; 2];
+    // SAFETY: pointer and length are those of one borrowed slice.
+    unsafe { las_point_extra(s.as_ptr(), s.len(), format, &mut part) }
+    part
+}
+
+pub fn point_write(numbers: &Numbers, extra: &[u8], format: u32, dst: &mut [u8], row: &mut Row) {
+    let (from, from_len) = (extra.as_ptr(), extra.len());
+    // SAFETY: both pointers go with the lengths of their borrowed slices.
+    unsafe {
+        las_point_write(
+            numbers,
+            from,
+            from_len,
+            format,
+            dst.as_mut_ptr(),
+            dst.len(),
+            row,
+        )
+    }
 }
 
 /// Lends a row to a call and gives back what it holds then. The row starts out with words that no

@@ -24,7 +24,7 @@ pub fn three(a: u8, b: u8, c: u8) -> u32 {
 }
 
 /// The flags that a word stands for.
-fn flags(word: u32) -> Flags {
+pub fn flags(word: u32) -> Flags {
     match word.to_le_bytes() {
         [a, b, c, 3] => Flags::ThreeByte(a, b, c),
         [a, b, _, _] => Flags::TwoByte(a, b),
@@ -33,7 +33,7 @@ fn flags(word: u32) -> Flags {
 
 /// The word that stands for flags. Words are compared, and not flags, since the Rust's own equality
 /// looks past some bits.
-fn word(flags: Flags) -> u32 {
+pub fn word(flags: Flags) -> u32 {
     match flags {
         Flags::TwoByte(a, b) => two(a, b),
         Flags::ThreeByte(a, b, c) => three(a, b, c),
@@ -151,7 +151,23 @@ pub static CLASS: Call = Call {
     port: |x, _| Answer::result(capi::las_flags_class(x)),
 };
 
-// The Rust has one error for both return numbers, and tests the return number first.
+/// The refusal that an error over flags has in document 01. The Rust has one error for both return
+/// numbers, and tests the return number first.
+pub fn refusal(flags: Flags, error: Error) -> Answer {
+    match error {
+        Error::ReturnNumber {
+            return_number,
+            version: None,
+        } => {
+            let number = if flags.return_number() > 7 { 15 } else { 16 };
+            Answer::refusal(number, return_number)
+        }
+        Error::InvalidClassification(class) => Answer::refusal(17, class),
+        Error::InvalidScannerChannel(channel) => Answer::refusal(18, channel),
+        error => unnumbered(error),
+    }
+}
+
 pub static TO_TWO_BYTES: Call = Call {
     name: "las_flags_to_two_bytes",
     op: Some(20),
@@ -159,16 +175,7 @@ pub static TO_TWO_BYTES: Call = Call {
         let flags = flags(x);
         match flags.to_two_bytes() {
             Ok((a, b)) => Answer::result(u16::from_le_bytes([a, b])),
-            Err(Error::ReturnNumber {
-                return_number,
-                version: None,
-            }) => {
-                let number = if flags.return_number() > 7 { 15 } else { 16 };
-                Answer::refusal(number, return_number)
-            }
-            Err(Error::InvalidClassification(class)) => Answer::refusal(17, class),
-            Err(Error::InvalidScannerChannel(channel)) => Answer::refusal(18, channel),
-            Err(error) => unnumbered(error),
+            Err(error) => refusal(flags, error),
         }
     },
     port: |x, _| capi::row(|row| capi::las_flags_to_two_bytes(x, row)),

@@ -32,7 +32,7 @@ pub fn format(word: u32) -> Format {
 }
 
 /// The word that stands for a format.
-fn word(format: Format) -> u32 {
+pub fn word(format: Format) -> u32 {
     // Taken apart in full, so that a field of the Rust's can't be left out unnoticed.
     let Format {
         has_gps_time,

@@ -1,18 +1,6 @@
-//! Puts the same questions to the published Rust and to the port, and counts where they differ.
-//!
-//! A module for each subject holds its calls and says over which inputs they are compared. A new
-//! subject adds its declarations to `capi`, a module beside these, and a line to `compare`.
+//! Runs every comparison and says whether nothing differed.
 
-mod angle;
-mod answer;
-mod call;
-mod capi;
-mod flags;
-mod format;
-mod replay;
-mod report;
-
-use report::Tally;
+use oracle::{angle, flags, format, point, replay, report::Tally};
 use std::{env, io, path::Path, process::ExitCode};
 
 /// Compares everything. `folder` is where the replay list lies.
@@ -21,6 +9,7 @@ fn compare(folder: &Path, write: bool) -> io::Result<bool> {
     format::compare(&mut tally);
     flags::compare(&mut tally);
     angle::compare(&mut tally);
+    point::compare(&mut tally);
     replay::compare(&mut tally, folder, write)?;
     Ok(tally.agreed())
 }

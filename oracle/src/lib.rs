@@ -1,0 +1,15 @@
+//! Puts the same questions to the published Rust and to the port, and counts where they differ.
+//!
+//! A module for each subject holds its calls and says over which inputs they are compared. A new
+//! subject adds its declarations to `capi`, a module beside these, and a line to main.rs.
+
+pub mod angle;
+pub mod answer;
+pub mod call;
+pub mod capi;
+pub mod flags;
+pub mod format;
+pub mod point;
+pub mod records;
+pub mod replay;
+pub mod report;
