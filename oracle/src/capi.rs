@@ -1,4 +1,4 @@
-//! The port: what the static libraries libcapi.a and libcapi_point.a export.
+//! The port: what the static libraries of the boundary crates export.
 //!
 //! `rt staticlib` proves a crate and writes its library; the script `run` says where they are.
 //! Nothing checks these declarations against the Rattle source: what changes there is changed here
@@ -90,6 +90,84 @@ pub fn point_write(numbers: &Numbers, extra: &[u8], format: u32, dst: &mut [u8],
             from,
             from_len,
             format,
+            dst.as_mut_ptr(),
+            dst.len(),
+            row,
+        )
+    }
+}
+
+/// The head of a VLR or EVLR: its numbers, as the crate `capi_vlr` lists them, and its texts.
+#[derive(Clone, Copy, Debug, PartialEq, Eq)]
+pub struct VlrHead {
+    pub numbers: [u64; 3],
+    pub user_id: [u8; 16],
+    pub description: [u8; 32],
+}
+
+#[link(name = "capi_vlr", kind = "static")]
+unsafe extern "C" {
+    fn las_vlr_read(
+        s: *const u8,
+        len: usize,
+        extended: bool,
+        row: &mut Row,
+        numbers: &mut [u64; 3],
+        user_id: &mut [u8; 16],
+        description: &mut [u8; 32],
+    );
+    fn las_vlr_data(s: *const u8, len: usize, extended: bool, part: &mut [u64; 2]);
+    fn las_vlr_write(
+        extended: bool,
+        numbers: &[u64; 3],
+        user_id: &[u8; 16],
+        description: &[u8; 32],
+        data: *const u8,
+        data_len: usize,
+        dst: *mut u8,
+        dst_len: usize,
+        row: &mut Row,
+    );
+}
+
+pub fn vlr_read(s: &[u8], extended: bool, row: &mut Row, head: &mut VlrHead) {
+    let VlrHead {
+        numbers,
+        user_id,
+        description,
+    } = head;
+    // SAFETY: pointer and length are those of one borrowed slice.
+    unsafe {
+        las_vlr_read(
+            s.as_ptr(),
+            s.len(),
+            extended,
+            row,
+            numbers,
+            user_id,
+            description,
+        )
+    }
+}
+
+/// The start and the length of the data. They start out as words that no answer has.
+pub fn vlr_data(s: &[u8], extended: bool) -> [u64; 2] {
+    let mut part = [u64::MAX; 2];
+    // SAFETY: pointer and length are those of one borrowed slice.
+    unsafe { las_vlr_data(s.as_ptr(), s.len(), extended, &mut part) }
+    part
+}
+
+pub fn vlr_write(extended: bool, head: &VlrHead, data: &[u8], dst: &mut [u8], row: &mut Row) {
+    // SAFETY: both pointers go with the lengths of their borrowed slices.
+    unsafe {
+        las_vlr_write(
+            extended,
+            &head.numbers,
+            &head.user_id,
+            &head.description,
+            data.as_ptr(),
+            data.len(),
             dst.as_mut_ptr(),
             dst.len(),
             row,

@@ -13,3 +13,4 @@ pub mod point;
 pub mod records;
 pub mod replay;
 pub mod report;
+pub mod vlr;

@@ -1,6 +1,6 @@
 //! Runs every comparison and says whether nothing differed.
 
-use oracle::{angle, flags, format, point, replay, report::Tally};
+use oracle::{angle, flags, format, point, replay, report::Tally, vlr};
 use std::{env, io, path::Path, process::ExitCode};
 
 /// Compares everything. `folder` is where the replay list lies.
@@ -10,6 +10,7 @@ fn compare(folder: &Path, write: bool) -> io::Result<bool> {
     flags::compare(&mut tally);
     angle::compare(&mut tally);
     point::compare(&mut tally);
+    vlr::compare(&mut tally);
     replay::compare(&mut tally, folder, write)?;
     Ok(tally.agreed())
 }

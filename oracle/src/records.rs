@@ -33,6 +33,15 @@ impl Lcg {
         u64::from(self.word()) << 32 | u64::from(self.word())
     }
 
+    /// A number below `end`.
+    pub fn below(&mut self, end: u64) -> u64 {
+        self.long() % end
+    }
+
+    pub fn byte(&mut self) -> u8 {
+        (self.word() >> 24) as u8
+    }
+
     /// Whether a throw with one chance in `n` hit.
     pub fn one_in(&mut self, n: u32) -> bool {
         self.word() % n == 0

@@ -1,0 +1,170 @@
+//! VLRs and EVLRs: heads, data, every cut, and lengths up to 2^64 - 1.
+
+use crate::{
+    answer::Answer,
+    capi::{self, VlrHead},
+    records::Lcg,
+    report::{Report, Tally},
+};
+use las::raw::{Vlr, vlr::RecordLength};
+
+/// How many records are read and written.
+const RECORDS: u64 = 2_000_000;
+
+/// What lent memory holds before a call, so that what is written where nothing may be shows.
+const FILL: u8 = 0xA5;
+const BEFORE: VlrHead = VlrHead {
+    numbers: [u64::MAX; 3],
+    user_id: [FILL; 16],
+    description: [FILL; 32],
+};
+
+/// A record's bytes, made whole and then perhaps cut or given a length that it has not.
+struct Case {
+    bytes: Vec<u8>,
+    extended: bool,
+}
+
+impl Case {
+    fn new(i: u64) -> Case {
+        let mut random = Lcg::new(i);
+        let extended = i % 2 == 1;
+        let head = head(extended);
+        let data = random.below(48) as usize;
+        let mut bytes: Vec<u8> = (0..head + data).map(|_| random.byte()).collect();
+        let stated = match random.below(16) {
+            // lengths whose sum with the head is at the ends of 2^64, and others that no slice has
+            0 if extended => u64::MAX - random.below(62),
+            1 if extended => (u64::MAX >> random.below(64)).max(1 << 20),
+            2 => data as u64 + random.below(3),
+            _ => data as u64,
+        };
+        if extended {
+            bytes[20..28].copy_from_slice(&stated.to_le_bytes());
+        } else {
+            bytes[20..22].copy_from_slice(&(stated as u16).to_le_bytes());
+        }
+        match random.below(4) {
+            0 => bytes.truncate(random.below(bytes.len() as u64 + 1) as usize),
+            1 => bytes.push(random.byte()),
+            _ => {}
+        }
+        Case { bytes, extended }
+    }
+
+    /// The length that the head states, if the head is there.
+    fn stated(&self) -> Option<u64> {
+        (self.bytes.len() >= head(self.extended)).then(|| {
+            if self.extended {
+                u64::from_le_bytes(self.bytes[20..28].try_into().expect("eight bytes"))
+            } else {
+                u64::from(u16::from_le_bytes([self.bytes[20], self.bytes[21]]))
+            }
+        })
+    }
+
+    /// The bytes that the record wants in all, by document 01: 0 if over 2^64 - 1.
+    fn wanted(&self) -> u64 {
+        let head = head(self.extended) as u64;
+        self.stated()
+            .map_or(head, |stated| head.checked_add(stated).unwrap_or(0))
+    }
+}
+
+fn head(extended: bool) -> usize {
+    if extended { 60 } else { 54 }
+}
+
+/// The stated length, whichever kind it is.
+fn length(vlr: &Vlr) -> u64 {
+    u64::from(vlr.record_length_after_header)
+}
+
+/// Reads with the Rust, where it can be asked: a length that no memory holds makes it panic.
+fn read(case: &Case) -> Option<Vlr> {
+    match case.stated() {
+        Some(stated) if stated > 1 << 16 => None,
+        _ => Vlr::read_from(&case.bytes[..], case.extended).ok(),
+    }
+}
+
+/// The Rust's head as the port gives it.
+fn head_of(vlr: &Vlr) -> VlrHead {
+    VlrHead {
+        numbers: [
+            u64::from(vlr.reserved),
+            u64::from(vlr.record_id),
+            length(vlr),
+        ],
+        user_id: vlr.user_id,
+        description: vlr.description,
+    }
+}
+
+/// Compares a read: the head, the data's place and, on refusal, that nothing was written.
+fn compare_read(report: &mut Report, i: u64) {
+    let case = Case::new(i);
+    let mut found = BEFORE;
+    let port = capi::row(|row| capi::vlr_read(&case.bytes, case.extended, row, &mut found));
+    let [start, count] = capi::vlr_data(&case.bytes, case.extended);
+    let agrees = match read(&case) {
+        Some(vlr) => {
+            let data = start as usize..(start + count) as usize;
+            port == Answer::result(case.wanted())
+                && found == head_of(&vlr)
+                && case.bytes.get(data) == Some(&vlr.data[..])
+        }
+        None => port == Answer::refusal(1, case.wanted()) && found == BEFORE && count == 0,
+    };
+    report.check(agrees, || format!("record {i}: port {port}"));
+}
+
+/// Compares a write of what was read, or of another length of data than stated, into enough room
+/// or too little.
+fn compare_write(report: &mut Report, i: u64) {
+    let mut random = Lcg::new(!i);
+    let case = Case::new(i);
+    let Some(mut vlr) = read(&case) else {
+        return;
+    };
+    if random.below(8) == 0 {
+        vlr.data.push(random.byte());
+    }
+    let mut bytes = Vec::new();
+    vlr.write_to(&mut bytes).expect("a Vec takes every byte");
+    let short = if random.below(4) == 0 {
+        random.below(bytes.len() as u64 + 1) as usize
+    } else {
+        0
+    };
+    let mut dst = vec![FILL; bytes.len() - short + 3 * usize::from(short == 0)];
+    let untouched = dst.clone();
+    let stated = length(&vlr);
+    let extended = matches!(vlr.record_length_after_header, RecordLength::Evlr(_));
+    let port = capi::row(|row| {
+        capi::vlr_write(extended, &head_of(&vlr), &vlr.data, &mut dst, row);
+    });
+    let agrees = if vlr.data.len() as u64 != stated {
+        port == Answer::refusal(24, stated) && dst == untouched
+    } else if dst.len() < bytes.len() {
+        port == Answer::refusal(22, bytes.len() as u64) && dst == untouched
+    } else {
+        port == Answer::result(bytes.len() as u64)
+            && dst[..bytes.len()] == bytes[..]
+            && dst[bytes.len()..] == untouched[bytes.len()..]
+    };
+    report.check(agrees, || format!("record {i}: port {port}"));
+}
+
+pub fn compare(tally: &mut Tally) {
+    tally.add(Report::over(
+        "las_vlr_read, las_vlr_data",
+        RECORDS,
+        |report, part| {
+            part.for_each(|i| compare_read(report, i));
+        },
+    ));
+    tally.add(Report::over("las_vlr_write", RECORDS, |report, part| {
+        part.for_each(|i| compare_write(report, i));
+    }));
+}
