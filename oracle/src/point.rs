@@ -111,6 +111,12 @@ pub fn point(n: &Numbers, extra: &[u8]) -> Point {
     }
 }
 
+/// Bytes as they are shown in a difference: the first of them, for a record may have 65,535.
+fn shown(bytes: &[u8]) -> String {
+    let first = &bytes[..bytes.len().min(128)];
+    format!("{} bytes {first:02x?}", bytes.len())
+}
+
 /// The Rust's reading, with the refusals of document 01: 8 where the format is overlong, which the
 /// Rust does not look at, and 1 where its bytes ran out.
 fn rust_read(word: u32, bytes: &[u8]) -> Result<Point, Answer> {
@@ -133,7 +139,8 @@ fn read(report: &mut Report, word: u32, bytes: &[u8]) {
     let mut numbers = [BEFORE; 24];
     let row = capi::row(|row| capi::point_read(bytes, word, row, &mut numbers));
     report.check(rust == (row, numbers), || {
-        format!("({word:#010x}, {bytes:02x?}): Rust {rust:x?}, port {row:x?} {numbers:x?}")
+        let bytes = shown(bytes);
+        format!("({word:#010x}, {bytes}): Rust {rust:x?}, port {row:x?} {numbers:x?}")
     });
 }
 
@@ -143,15 +150,16 @@ fn extra(report: &mut Report, word: u32, bytes: &[u8]) {
     let start = record_len(word) - usize::from(format::format(word).extra_bytes);
     let extra = rust_read(word, bytes).map_or(Vec::new(), |point| point.extra_bytes);
     let [at, len] = capi::point_extra(bytes, word);
-    let shown = match len {
+    let part = match len {
         0 => Some(&[][..]),
         _ => at
             .checked_add(len)
             .and_then(|end| bytes.get(at as usize..end as usize)),
     };
-    let same = at == start as u64 && shown == Some(&extra[..]);
+    let same = at == start as u64 && part == Some(&extra[..]);
     report.check(same, || {
-        format!("({word:#010x}, {bytes:02x?}): Rust {start} {extra:02x?}, port {at} {len}")
+        let (bytes, extra) = (shown(bytes), shown(&extra));
+        format!("({word:#010x}, {bytes}): Rust {start} {extra}, port {at} {len}")
     });
 }
 
@@ -211,9 +219,9 @@ impl Writing<'_> {
         let dst = &mut scratch.port[..];
         let port = capi::row(|row| capi::point_write(numbers, extra, word, dst, row));
         report.check(rust == port && scratch.rust == scratch.port, || {
+            let [extra, of_rust, of_port] = [extra, &scratch.rust, &scratch.port].map(|v| shown(v));
             format!(
-                "({numbers:x?}, {extra:02x?}, {word:#010x}): Rust {rust} {:02x?}, port {port} {:02x?}",
-                scratch.rust, scratch.port
+                "({numbers:x?}, {extra}, {word:#010x}): Rust {rust} {of_rust}, port {port} {of_port}"
             )
         });
     }
