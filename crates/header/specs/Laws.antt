@@ -7,7 +7,9 @@ use native.Mathlib.Omega.{arith}
 use borrow.Author.Tests.{le-ltb, lt-ltb, eq-eqb, eqb-true, ltb-true, ltb-false}
 use lib.Dec.{T, eqb, ltb, eqb-refl}
 use lib.Ieee.Bits.{is-true}
-use lib.ListN.{length}
+use lib.ListN.{length, take, drop, length-take}
+use lib.Seq.{length-take-le}
+use Rattle.le.specs.Le.{num}
 use Rattle.refusal.specs.declared.Refusal.{Refusal}
 use Rattle.refusal.specs.declared.Refusal.the-variants.{Short, Signature, Version as VersionRefusal}
 use Rattle.header.specs.declared.Version.{Version}
@@ -15,8 +17,9 @@ use Rattle.header.specs.declared.StandardSize.{StandardSize}
 use Rattle.header.specs.declared.StandardSize.the-variants.{Is, Refused as Unknown}
 use Rattle.header.specs.declared.HeaderAnswer.{HeaderAnswer}
 use Rattle.header.specs.declared.HeaderAnswer.the-variants.{Whole, Refused}
-use Rattle.header.specs.Layout.{FileSignature, VersionMajor, VersionMinor, HeaderSize, fields12, fields13, fields14, fieldsOf, size}
+use Rattle.header.specs.Layout.{Field, FileSignature, VersionMajor, VersionMinor, HeaderSize, place, width, fields12, fields13, fields14, fieldsOf, size}
 use Rattle.header.specs.Header.{part, number, lasf}
+use Rattle.header.specs.Window.{num-take, part-take}
 use Rattle.header.specs.Judged.{eqList, standardOf, versionOf, paddedTo, sized, versioned, judged}
 
 -- `eqList` tells whether two lists are the same
@@ -119,15 +122,43 @@ whole s {n} {e} a =
     let least : 227 ≤ n = rw (← (a .block)) at (size-least (number VersionMinor s)) in
     rw (le-ltb (length s) 4 (omega (arith, a .holds-block)), a .signature, eqList-refl, le-ltb (length s) 26 (omega (arith, a .holds-block)), eq-eqb _ _ (a .major), lt-ltb _ _ (a .minor), ← (a .block), le-ltb _ _ (a .holds-block), le-ltb _ _ (a .holds-field), ← (a .end))
 
--- The block is no shorter than version 1.0's, and lies with its padding in the bytes.
-pub within : (s : List ℕ) {n e : ℕ} → judged s ≡ Whole n e → (227 ≤ n) × (n ≤ e) × (e ≤ length s)
+-- The block is no shorter than version 1.0's, and lies with its padding in the bytes; the header-size field does not pass
+-- the padding's end.
+pub within : (s : List ℕ) {n e : ℕ} → judged s ≡ Whole n e → (227 ≤ n) × (n ≤ e) × (e ≤ length s) × (number HeaderSize s ≤ e)
 unfolding paddedTo
-within s {n} {e} p =
-    let a = accepted s p in
-    let least : 227 ≤ n = rw (← (a .block)) at (size-least (number VersionMinor s)) in
-    let in-bytes = go (ltb n (number HeaderSize s)) refl a in
-    (least, in-bytes .0, in-bytes .1)
+within s {n} {e} p = go (ltb n (number HeaderSize s)) refl
   where
-    go : (t : Bool) → ltb n (number HeaderSize s) ≡ t → Accepted s n e → (n ≤ e) × (e ≤ length s)
-    go true q a = let same : e ≡ number HeaderSize s = a .end ∙ rw q in (omega (arith, ltb-true n (number HeaderSize s) q), omega (arith, a .holds-field))
-    go false q a = let same : e ≡ n = a .end ∙ rw q in (omega arith, omega (arith, a .holds-block))
+    a : Accepted s n e
+    a = accepted s p
+
+    least : 227 ≤ n
+    least = rw (← (a .block)) at (size-least (number VersionMinor s))
+
+    go : (t : Bool) → ltb n (number HeaderSize s) ≡ t → (227 ≤ n) × (n ≤ e) × (e ≤ length s) × (number HeaderSize s ≤ e)
+    go true q =
+        let same : e ≡ number HeaderSize s = a .end ∙ rw q in
+        (least, omega (arith, ltb-true n (number HeaderSize s) q), omega (arith, a .holds-field), omega arith)
+    go false q =
+        let same : e ≡ n = a .end ∙ rw q in
+        (least, omega arith, omega (arith, a .holds-block), omega (arith, ltb-false n (number HeaderSize s) q))
+
+-- Bytes that agree as far as the padding have the same answer.
+pub agreed : (s t : List ℕ) {n e : ℕ} → judged s ≡ Whole n e → take e s ≡ take e t → judged t ≡ Whole n e
+agreed s t {n} {e} p same =
+    let a = accepted s p in
+    let w = within s p in
+    let long : e ≤ length t = omega (arith, length-take e t, ap length same, length-take-le e s (w .2)) in
+    let number-same : (f : Field) → place f + width f ≤ 227 → number f t ≡ number f s =
+    λ f h. sym (num-take e t (width f) (place f) (omega (arith, w .0, w .1))) ∙ ap (num (width f) (place f)) (sym same) ∙ num-take e s (width f) (place f) (omega (arith, w .0, w .1)) in
+    let minors = number-same VersionMinor (omega arith) in
+    let fields = number-same HeaderSize (omega arith) in
+    whole t
+    (record {
+      signature = sym (part-take e t 4 0 (omega (arith, w .0, w .1))) ∙ ap (λ (l : List ℕ). take 4 (drop 0 l)) (sym same) ∙ part-take e s 4 0 (omega (arith, w .0, w .1)) ∙ a .signature;
+      major = number-same VersionMajor (omega arith) ∙ a .major;
+      minor = rw minors (a .minor);
+      block = a .block ∙ ap (λ (m : ℕ). size (fieldsOf m)) (sym minors);
+      holds-block = omega (arith, w .1, long);
+      holds-field = rw fields (omega (arith, w .3, long));
+      end = a .end ∙ ap (paddedTo n) (sym fields);
+    })

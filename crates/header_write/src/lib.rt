@@ -5,7 +5,8 @@ ghost use Prim.Native.Nat.{_+_, _≤_};
 ghost use lib.ListN.{length};
 ghost use lib.Seq.{sets};
 ghost use Rattle.header.specs.Layout.{LegacyNumberOfPointsByReturn, NumberOfPointsByReturn, place, origin, contents, scales, bounds, large, fieldsOf};
-ghost use Rattle.header.specs.Header.{largeBack};
+ghost use mathlib.Core.Bool.{cond};
+ghost use Rattle.header.specs.Header.{noLarge};
 ghost use Rattle.header.specs.Judged.{standardOf};
 ghost use Rattle.header_write.specs.Bytes.{many, realBytes, startBack, evlrBack};
 ghost use Rattle.header_write.specs.Table.{Stored};
@@ -133,7 +134,8 @@ fn write_large(h: Header, dst: &mut [u8])
 {
     let pair = h.evlr;
     let evlr = evlr_back(pair);
-    let large_file = large_back(h);
+    let counts = h.large_file;
+    let large_file = large_back(h.has_large_file, counts);
     let by_return = large_file.number_of_points_by_return;
     store::set_u64(dst, 235, evlr.start_of_first_evlr);
     store::set_u32(dst, 243, evlr.number_of_evlrs);
@@ -165,11 +167,11 @@ fn evlr_back(evlr: OptionEvlr) -> Evlr
 }
 
 // A missing large file is written as zeros.
-fn large_back(h: Header) -> LargeFile
-    ensures { λ r. ⌜ r ≡ largeBack h ⌝ }
+fn large_back(has_large_file: bool, large_file: LargeFile) -> LargeFile
+    ensures { λ r. ⌜ r ≡ cond «has_large_file» «large_file» noLarge ⌝ }
 {
-    if h.has_large_file {
-        return h.large_file;
+    if has_large_file {
+        return large_file;
     }
     LargeFile {
         number_of_point_records: 0,

@@ -11,7 +11,7 @@ returns : tie.Need-returns
 unfolding stored
 returns c =
     record {
-      bytes = rw (c .before .before .set-large-by-return .ensures .0, c .before .before .before .before .before .before .set-u642 .ensures, c .before .before .before .before .before .before .before .before .before .before .set-u32 .ensures, c .before .before .before .before .before .before .before .before .before .before .before .before .before .before .set-u64 .ensures, c .before .before .before .before .before .before .before .before .before .before .before .before .before .before .before .before .before .large-back .ensures, c .before .before .before .before .before .before .before .before .before .before .before .before .before .before .before .before .before .before .evlr-back .ensures);
+      bytes = rw (c .before .before .set-large-by-return .ensures .0, c .before .before .before .before .before .before .set-u642 .ensures, c .before .before .before .before .before .before .before .before .before .before .set-u32 .ensures, c .before .before .before .before .before .before .before .before .before .before .before .before .before .before .set-u64 .ensures, c .before .before .before .before .before .before .before .before .before .before .before .before .before .before .before .before .before .large-back .ensures, c .before .before .before .before .before .before .before .before .before .before .before .before .before .before .before .before .before .before .before .evlr-back .ensures);
       wide = refl & refl & refl & length-many 8 15 _ (ap (λ (l : LargeFile). length (l .«number_of_points_by_return»)) (sym (c .before .before .before .before .before .before .before .before .before .before .before .before .before .before .before .before .before .large-back .ensures)) ∙ c .before .before .set-large-by-return .ensures .1) & none;
     }
 
