@@ -2,7 +2,7 @@
 use Prim.Native.Nat.{ℕ, _+_, _*_}
 use mathlib.Core.Path.{_≡_, refl, sym, ap, _∙_}
 use mathlib.Core.Bool.{Bool, true, false, cond}
-use mathlib.Core.List.{List, [], _∷_, _++_, map}
+use mathlib.Core.List.{List, [], _∷_, _++_, append-assoc, map}
 use native.Mathlib.Omega.{arith}
 use lib.Dec.{ltb}
 use lib.ListN.{length, take, drop, length-append}
@@ -21,7 +21,7 @@ pub data All (P : Field → Type 0) : List Field → Type 0 where
   none : All P []
   _&_ : {f : Field} {fs : List Field} → P f → All P fs → All P (f ∷ fs)
 
-both : {P : Field → Type 0} {xs ys : List Field} → All P xs → All P ys → All P (xs ++ ys)
+pub both : {P : Field → Type 0} {xs ys : List Field} → All P xs → All P ys → All P (xs ++ ys)
 both none q = q
 both (x & p) q = x & both p q
 
@@ -67,6 +67,10 @@ module _ (h : Header) where
   length-run : (fs : List Field) → All (λ (f : Field). length (fieldBytes h f) ≡ width f) fs → length (run h fs) ≡ size fs
   length-run [] none = refl
   length-run (f ∷ fs) (w & ws) = length-append (fieldBytes h f) (run h fs) ∙ λ i. w i + length-run fs ws i
+
+  pub run-append : (xs ys : List Field) → run h (xs ++ ys) ≡ run h xs ++ run h ys
+  run-append [] ys = refl
+  run-append (x ∷ xs) ys = rw (append-assoc, run-append xs ys)
 
   -- fields whose bytes are those of b at their places are b from the first's place on
   pub run-parts : (b : List ℕ) (fs : List Field) (n : ℕ) → map place fs ≡ starts n fs → All (λ (f : Field). fieldBytes h f ≡ part f b) fs → run h fs ≡ take (size fs) (drop n b)
