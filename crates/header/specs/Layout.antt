@@ -1,0 +1,101 @@
+-- The public header block as data: LAS 1.4 R15, table "Public Header Block"; document 01, "Record layouts".
+use Prim.Native.Nat.{ℕ, _+_}
+use mathlib.Core.Bool.{cond}
+use mathlib.Core.List.{List, [], _∷_, _++_}
+use lib.Dec.{ltb}
+
+pub data Field : Type 0 where
+  FileSignature FileSourceId GlobalEncoding Guid VersionMajor VersionMinor SystemIdentifier GeneratingSoftware : Field
+  FileCreationDayOfYear FileCreationYear HeaderSize OffsetToPointData NumberOfVariableLengthRecords : Field
+  PointDataRecordFormat PointDataRecordLength LegacyNumberOfPointRecords LegacyNumberOfPointsByReturn : Field
+  XScaleFactor YScaleFactor ZScaleFactor XOffset YOffset ZOffset MaxX MinX MaxY MinY MaxZ MinZ : Field
+  StartOfWaveformDataPacketRecord StartOfFirstEvlr NumberOfEvlrs NumberOfPointRecords NumberOfPointsByReturn : Field
+
+-- each field's first byte and its number of bytes
+abbrev pub span : Field → ℕ × ℕ
+span FileSignature = (0, 4)
+span FileSourceId = (4, 2)
+span GlobalEncoding = (6, 2)
+span Guid = (8, 16)
+span VersionMajor = (24, 1)
+span VersionMinor = (25, 1)
+span SystemIdentifier = (26, 32)
+span GeneratingSoftware = (58, 32)
+span FileCreationDayOfYear = (90, 2)
+span FileCreationYear = (92, 2)
+span HeaderSize = (94, 2)
+span OffsetToPointData = (96, 4)
+span NumberOfVariableLengthRecords = (100, 4)
+span PointDataRecordFormat = (104, 1)
+span PointDataRecordLength = (105, 2)
+span LegacyNumberOfPointRecords = (107, 4)
+span LegacyNumberOfPointsByReturn = (111, 20)
+span XScaleFactor = (131, 8)
+span YScaleFactor = (139, 8)
+span ZScaleFactor = (147, 8)
+span XOffset = (155, 8)
+span YOffset = (163, 8)
+span ZOffset = (171, 8)
+span MaxX = (179, 8)
+span MinX = (187, 8)
+span MaxY = (195, 8)
+span MinY = (203, 8)
+span MaxZ = (211, 8)
+span MinZ = (219, 8)
+span StartOfWaveformDataPacketRecord = (227, 8)
+span StartOfFirstEvlr = (235, 8)
+span NumberOfEvlrs = (243, 4)
+span NumberOfPointRecords = (247, 8)
+span NumberOfPointsByReturn = (255, 120)
+
+abbrev pub place : Field → ℕ
+place f = span f .0
+
+abbrev pub width : Field → ℕ
+width f = span f .1
+
+-- what versions 1.0 to 1.2 have, in order: where the file comes from, what it holds, how its points are
+-- scaled, and where they lie
+abbrev pub origin : List Field
+origin =
+    FileSignature ∷ FileSourceId ∷ GlobalEncoding ∷ Guid ∷ VersionMajor ∷ VersionMinor ∷ SystemIdentifier ∷
+    GeneratingSoftware ∷ []
+
+abbrev pub contents : List Field
+contents =
+    FileCreationDayOfYear ∷ FileCreationYear ∷ HeaderSize ∷ OffsetToPointData ∷ NumberOfVariableLengthRecords ∷
+    PointDataRecordFormat ∷ PointDataRecordLength ∷ LegacyNumberOfPointRecords ∷ LegacyNumberOfPointsByReturn ∷ []
+
+abbrev pub scales : List Field
+scales = XScaleFactor ∷ YScaleFactor ∷ ZScaleFactor ∷ XOffset ∷ YOffset ∷ ZOffset ∷ []
+
+abbrev pub bounds : List Field
+bounds = MaxX ∷ MinX ∷ MaxY ∷ MinY ∷ MaxZ ∷ MinZ ∷ []
+
+abbrev pub fields12 : List Field
+fields12 = origin ++ (contents ++ (scales ++ bounds))
+
+-- "Versions 1.3 and 1.4 have the waveform start"
+abbrev pub fields13 : List Field
+fields13 = fields12 ++ (StartOfWaveformDataPacketRecord ∷ [])
+
+-- "Only 1.4 has the EVLR start and count, then the point count and 15 counts by return"
+abbrev pub large : List Field
+large = StartOfFirstEvlr ∷ NumberOfEvlrs ∷ NumberOfPointRecords ∷ NumberOfPointsByReturn ∷ []
+
+abbrev pub fields14 : List Field
+fields14 = fields13 ++ large
+
+-- the fields of version 1.minor
+abbrev pub fieldsOf : ℕ → List Field
+fieldsOf minor = cond (ltb minor 3) fields12 (cond (ltb minor 4) fields13 fields14)
+
+-- the bytes of some fields together
+abbrev pub size : List Field → ℕ
+size [] = 0
+size (f ∷ fs) = width f + size fs
+
+-- where fields that follow each other from n on begin
+abbrev pub starts : ℕ → List Field → List ℕ
+starts n [] = []
+starts n (f ∷ fs) = n ∷ starts (n + width f) fs

@@ -1,0 +1,6 @@
+pub mod Layout
+pub mod Header
+pub mod Judged
+pub mod Window
+pub mod Laws
+pub mod Theorems
