@@ -1,5 +1,6 @@
-// Headers written for C and Rust, from the 51 numbers and three texts that crate `capi_header` lists. A number of a part that
-// is missing is ignored; of a number wider than its field the low bits count.
+// Headers written for C and Rust, from the 51 numbers and three texts that crate `capi_header` lists. A number of a part
+// that is missing is ignored; of a number wider than its field the low bits count. Apart from `capi_header` because together
+// they would be checked for a minute.
 ghost use mathlib.Core.Path.{_≡_};
 ghost use Rattle.header_write.specs.Wrote.{wroteOf};
 ghost use Rattle.capi_header_write.specs.Numbers.{lowFrom, startFrom, evlrFrom, largeFrom, nansFrom, headerFrom, writtenRow};

@@ -1,5 +1,3 @@
-use Prim.Native.Nat.{ℕ}
-use mathlib.Core.List.{List}
 use mathlib.Core.Path.{sym, ap, _∙_}
 use Rattle.capi_header.specs.Numbers.{Lent, readBy, readRow}
 use borrow.Author.Needs.{needs}
@@ -13,8 +11,8 @@ returns c =
     let a = c .before .before .before .before .before .before .before .before .before .before .before .before .args in
     let lent : Lent = (a .numbers .now, a .guid .now, a .system .now, a .software .now) in
     let h = r .result .header in
-    (λ i. (c .tell .ensures i, (c .before .before .numbers-of .ensures i, h .guid, h .«system_identifier», h .«generating_software»)))
-    ∙ ap (readBy lent h) (sym (c .before .before .before .before .before .before .before .answer .given .1)) ∙ ap (readRow lent) (r .ensures)
+    _∙_ {a = (c .tell .last .0, (c .before .before .numbers-of .result, h .guid, h .«system_identifier», h .«generating_software»))} (λ i. (c .tell .ensures i, (c .before .before .numbers-of .ensures i, h .guid, h .«system_identifier», h .«generating_software»)))
+    (ap (readBy lent h) (sym (c .before .before .before .before .before .before .before .answer .given .1)) ∙ ap (readRow lent) (r .ensures))
 
 returns-2 : tie.Need-returns-2
 unfolding readRow
@@ -23,8 +21,8 @@ returns-2 c =
     let a = c .before .before .before .before .before .before .before .before .args in
     let lent : Lent = (a .numbers .now, a .guid .now, a .system .now, a .software .now) in
     let h = r .result .header in
-    ap (λ (row : List ℕ). (row, lent)) (c .refuse .ensures)
-    ∙ ap (readBy lent h) (sym (c .before .before .before .answer2 .given .1)) ∙ ap (readRow lent) (r .ensures)
+    _∙_ {a = (c .refuse .last .0, lent)} (λ i. (c .refuse .ensures i, lent))
+    (ap (readBy lent h) (sym (c .before .before .before .answer2 .given .1)) ∙ ap (readRow lent) (r .ensures))
 
 pub las-header-read-spec : {M : Type 1} → statement M
 las-header-read-spec =
