@@ -1,0 +1,19 @@
+use Rattle.refusal.proofs.Tests.{tests}
+use Rattle.capi_header_write.specs.Numbers.{evlrFrom}
+use borrow.Author.Needs.{needs}
+use Rattle.capi_header_write.proofs.evlr_from.Statement.{statement}
+use Rattle.capi_header_write.proofs.evlr_from.Tie as tie
+
+returns : tie.Need-returns
+unfolding evlrFrom
+returns c = search tests
+
+returns-2 : tie.Need-returns-2
+unfolding evlrFrom
+returns-2 c = search tests
+
+pub evlr-from-spec : {M : Type 1} → statement M
+evlr-from-spec =
+    tie.close
+    (tie.spec
+    returns (λ c. search needs) returns-2)
