@@ -175,6 +175,102 @@ pub fn vlr_write(extended: bool, head: &VlrHead, data: &[u8], dst: &mut [u8], ro
     }
 }
 
+/// A header: its numbers, as the crate `capi_header` lists them, and its texts.
+#[derive(Clone, Copy, Debug, PartialEq, Eq)]
+pub struct HeaderNumbers {
+    pub numbers: [u64; 51],
+    pub guid: [u8; 16],
+    pub system_identifier: [u8; 32],
+    pub generating_software: [u8; 32],
+}
+
+#[link(name = "capi_header", kind = "static")]
+unsafe extern "C" {
+    fn las_header_read(
+        s: *const u8,
+        len: usize,
+        row: &mut Row,
+        numbers: &mut [u64; 51],
+        guid: &mut [u8; 16],
+        system: &mut [u8; 32],
+        software: &mut [u8; 32],
+    );
+    fn las_header_padding(s: *const u8, len: usize, part: &mut [u64; 2]);
+    fn las_header_points(s: *const u8, len: usize, row: &mut Row);
+    fn las_header_end_of_points(s: *const u8, len: usize, row: &mut Row);
+}
+
+#[link(name = "capi_header_write", kind = "static")]
+unsafe extern "C" {
+    fn las_header_write(
+        numbers: &[u64; 51],
+        guid: &[u8; 16],
+        system: &[u8; 32],
+        software: &[u8; 32],
+        padding: *const u8,
+        padding_len: usize,
+        dst: *mut u8,
+        dst_len: usize,
+        row: &mut Row,
+    );
+}
+
+pub fn header_read(s: &[u8], row: &mut Row, header: &mut HeaderNumbers) {
+    let HeaderNumbers {
+        numbers,
+        guid,
+        system_identifier,
+        generating_software,
+    } = header;
+    // SAFETY: pointer and length are those of one borrowed slice.
+    unsafe {
+        las_header_read(
+            s.as_ptr(),
+            s.len(),
+            row,
+            numbers,
+            guid,
+            system_identifier,
+            generating_software,
+        )
+    }
+}
+
+/// The start and the length of the padding. They start out as words that no answer has.
+pub fn header_padding(s: &[u8]) -> [u64; 2] {
+    let mut part = [u64::MAX; 2];
+    // SAFETY: pointer and length are those of one borrowed slice.
+    unsafe { las_header_padding(s.as_ptr(), s.len(), &mut part) }
+    part
+}
+
+pub fn header_points(s: &[u8], row: &mut Row) {
+    // SAFETY: pointer and length are those of one borrowed slice.
+    unsafe { las_header_points(s.as_ptr(), s.len(), row) }
+}
+
+pub fn header_end_of_points(s: &[u8], row: &mut Row) {
+    // SAFETY: pointer and length are those of one borrowed slice.
+    unsafe { las_header_end_of_points(s.as_ptr(), s.len(), row) }
+}
+
+pub fn header_write(header: &HeaderNumbers, padding: &[u8], dst: &mut [u8], row: &mut Row) {
+    // SAFETY: both pointers go with the lengths of their borrowed slices.
+    unsafe {
+        las_header_write(
+            &header.numbers,
+            &header.guid,
+            &header.system_identifier,
+            &header.generating_software,
+            padding.as_ptr(),
+            padding.len(),
+            dst.as_mut_ptr(),
+            dst.len(),
+            row,
+        )
+    }
+}
+
 /// Lends a row to a call and gives back what it holds then. The row starts out with words that no
 /// answer has, so a word left unwritten is a difference.
 pub fn row(call: impl FnOnce(&mut Row)) -> Answer {

@@ -9,6 +9,7 @@ pub mod call;
 pub mod capi;
 pub mod flags;
 pub mod format;
+pub mod header;
 pub mod point;
 pub mod records;
 pub mod replay;

@@ -1,6 +1,6 @@
 //! Runs every comparison and says whether nothing differed.
 
-use oracle::{angle, flags, format, point, replay, report::Tally, vlr};
+use oracle::{angle, flags, format, header, point, replay, report::Tally, vlr};
 use std::{env, io, path::Path, process::ExitCode};
 
 /// Compares everything. `folder` is where the replay list lies.
@@ -11,6 +11,7 @@ fn compare(folder: &Path, write: bool) -> io::Result<bool> {
     angle::compare(&mut tally);
     point::compare(&mut tally);
     vlr::compare(&mut tally);
+    header::compare(&mut tally);
     replay::compare(&mut tally, folder, write)?;
     Ok(tally.agreed())
 }
