@@ -21,7 +21,7 @@ const BEFORE: HeaderNumbers = HeaderNumbers {
 };
 
 /// The standard size of a version, if it is one of the five.
-fn standard(major: u8, minor: u8) -> Option<usize> {
+pub(crate) fn standard(major: u8, minor: u8) -> Option<usize> {
     match (major, minor) {
         (1, 0..=2) => Some(227),
         (1, 3) => Some(235),
@@ -79,7 +79,7 @@ fn bytes(i: u64) -> Vec<u8> {
 }
 
 /// What document 01's rule 1 says of bytes: where the header ends with its padding, or the refusal.
-fn judged(bytes: &[u8]) -> Answer {
+pub(crate) fn judged(bytes: &[u8]) -> Answer {
     let short = |n: usize| Answer::refusal(1, n as u64);
     if bytes.len() < 4 {
         return short(4);
@@ -105,7 +105,7 @@ fn judged(bytes: &[u8]) -> Answer {
 }
 
 /// The Rust's header as the port gives it.
-fn numbers(h: &Header) -> HeaderNumbers {
+pub(crate) fn numbers(h: &Header) -> HeaderNumbers {
     let mut n = vec![
         u64::from(h.file_source_id),
         u64::from(h.global_encoding),
@@ -171,7 +171,7 @@ fn points(h: &Header) -> u64 {
 }
 
 /// The end of points: the Rust's own, where it is below 2^64, and elsewhere refusal 12.
-fn end_of_points(h: &Header) -> Answer {
+pub(crate) fn end_of_points(h: &Header) -> Answer {
     let count = points(h);
     let exact = u128::from(h.offset_to_point_data)
         + u128::from(count) * u128::from(h.point_data_record_length);

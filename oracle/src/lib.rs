@@ -13,5 +13,6 @@ pub mod header;
 pub mod point;
 pub mod records;
 pub mod replay;
+pub mod replay_records;
 pub mod report;
 pub mod vlr;

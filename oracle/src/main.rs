@@ -1,10 +1,10 @@
 //! Runs every comparison and says whether nothing differed.
 
-use oracle::{angle, flags, format, header, point, replay, report::Tally, vlr};
+use oracle::{angle, flags, format, header, point, replay, replay_records, report::Tally, vlr};
 use std::{env, io, path::Path, process::ExitCode};
 
-/// Compares everything. `folder` is where the replay list lies.
-fn compare(folder: &Path, write: bool) -> io::Result<bool> {
+/// Compares everything. `crates` is where the programs lie that replay the lists.
+fn compare(crates: &Path, write: bool) -> io::Result<bool> {
     let mut tally = Tally::new();
     format::compare(&mut tally);
     flags::compare(&mut tally);
@@ -12,25 +12,26 @@ fn compare(folder: &Path, write: bool) -> io::Result<bool> {
     point::compare(&mut tally);
     vlr::compare(&mut tally);
     header::compare(&mut tally);
-    replay::compare(&mut tally, folder, write)?;
+    replay::compare(&mut tally, &crates.join("replay"), write)?;
+    replay_records::compare(&mut tally, &crates.join("replay_records"), write)?;
     Ok(tally.agreed())
 }
 
 fn main() -> ExitCode {
     let args: Vec<String> = env::args().skip(1).collect();
-    let (folder, write) = match args.iter().map(String::as_str).collect::<Vec<_>>()[..] {
-        [folder] => (folder, false),
-        [folder, "--write-replay"] => (folder, true),
+    let (crates, write) = match args.iter().map(String::as_str).collect::<Vec<_>>()[..] {
+        [crates] => (crates, false),
+        [crates, "--write-replay"] => (crates, true),
         _ => {
-            eprintln!("usage: oracle REPLAY-FOLDER [--write-replay]");
+            eprintln!("usage: oracle CRATES [--write-replay]");
             return ExitCode::from(2);
         }
     };
-    match compare(Path::new(folder), write) {
+    match compare(Path::new(crates), write) {
         Ok(true) => ExitCode::SUCCESS,
         Ok(false) => ExitCode::FAILURE,
         Err(error) => {
-            eprintln!("oracle: {folder}: {error}");
+            eprintln!("oracle: {crates}: {error}");
             ExitCode::FAILURE
         }
     }

@@ -119,7 +119,7 @@ fn shown(bytes: &[u8]) -> String {
 
 /// The Rust's reading, with the refusals of document 01: 8 where the format is overlong, which the
 /// Rust does not look at, and 1 where its bytes ran out.
-fn rust_read(word: u32, bytes: &[u8]) -> Result<Point, Answer> {
+pub(crate) fn rust_read(word: u32, bytes: &[u8]) -> Result<Point, Answer> {
     let len = record_len(word);
     if len > LONGEST {
         return Err(Answer::refusal(8, len as u64));
@@ -164,11 +164,11 @@ fn extra(report: &mut Report, word: u32, bytes: &[u8]) {
 }
 
 /// A point to write: the Rust's, and the numbers that stand for it. The destination has `room`.
-struct Writing<'a> {
-    word: u32,
-    point: &'a Point,
-    numbers: &'a Numbers,
-    room: usize,
+pub(crate) struct Writing<'a> {
+    pub word: u32,
+    pub point: &'a Point,
+    pub numbers: &'a Numbers,
+    pub room: usize,
 }
 
 /// Destinations that are used again and again.
@@ -181,7 +181,7 @@ struct Scratch {
 impl Writing<'_> {
     /// The Rust's writing into `dst`, with the refusals of document 01 in their order. The Rust
     /// looks at neither 8 nor 23: it panics over the extra bytes, and so is not asked.
-    fn rust(&self, dst: &mut Vec<u8>) -> Answer {
+    pub fn rust(&self, dst: &mut Vec<u8>) -> Answer {
         let (format, len) = (format::format(self.word), record_len(self.word));
         dst.clear();
         let answer = if len > LONGEST {

@@ -70,10 +70,20 @@ pub fn compare(tally: &mut Tally, folder: &Path, write: bool) -> io::Result<()> 
     degrees(&mut list);
     angle_pairs(&mut list);
     tally.add(list.report);
+    keep(tally, folder, write, list.stdin, list.stdout)
+}
 
+/// Writes a list into its folder, or compares it with what the folder has.
+pub(crate) fn keep(
+    tally: &mut Tally,
+    folder: &Path,
+    write: bool,
+    stdin: Vec<u8>,
+    stdout: String,
+) -> io::Result<()> {
     let files = [
-        (folder.join("stdin"), list.stdin),
-        (folder.join("stdout"), list.stdout.into_bytes()),
+        (folder.join("stdin"), stdin),
+        (folder.join("stdout"), stdout.into_bytes()),
     ];
     if write {
         fs::create_dir_all(folder)?;

@@ -20,9 +20,9 @@ const BEFORE: VlrHead = VlrHead {
 };
 
 /// A record's bytes, made whole and then perhaps cut or given a length that it has not.
-struct Case {
-    bytes: Vec<u8>,
-    extended: bool,
+pub(crate) struct Case {
+    pub bytes: Vec<u8>,
+    pub extended: bool,
 }
 
 impl Case {
@@ -53,7 +53,7 @@ impl Case {
     }
 
     /// The length that the head states, if the head is there.
-    fn stated(&self) -> Option<u64> {
+    pub fn stated(&self) -> Option<u64> {
         (self.bytes.len() >= head(self.extended)).then(|| {
             if self.extended {
                 u64::from_le_bytes(self.bytes[20..28].try_into().expect("eight bytes"))
@@ -64,19 +64,19 @@ impl Case {
     }
 
     /// The bytes that the record wants in all, by document 01: 0 if over 2^64 - 1.
-    fn wanted(&self) -> u64 {
+    pub fn wanted(&self) -> u64 {
         let head = head(self.extended) as u64;
         self.stated()
             .map_or(head, |stated| head.checked_add(stated).unwrap_or(0))
     }
 }
 
-fn head(extended: bool) -> usize {
+pub(crate) fn head(extended: bool) -> usize {
     if extended { 60 } else { 54 }
 }
 
 /// The stated length, whichever kind it is.
-fn length(vlr: &Vlr) -> u64 {
+pub(crate) fn length(vlr: &Vlr) -> u64 {
     u64::from(vlr.record_length_after_header)
 }
 
@@ -89,7 +89,7 @@ fn read(case: &Case) -> Option<Vlr> {
 }
 
 /// The Rust's head as the port gives it.
-fn head_of(vlr: &Vlr) -> VlrHead {
+pub(crate) fn head_of(vlr: &Vlr) -> VlrHead {
     VlrHead {
         numbers: [
             u64::from(vlr.reserved),
