@@ -1,3 +1,4 @@
+-- Long since a header has 32 fields, each from a call of its own: a name for each place, then the record.
 use mathlib.Core.Path.{ap, _∙_}
 use borrow.Author.Needs.{needs}
 use lib.Dec.{eqb}
