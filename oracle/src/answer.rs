@@ -23,6 +23,12 @@ impl Answer {
             record: 0,
         }
     }
+
+    /// Whether the Rust has no such answer, since it goes on, wraps or panics where document 01
+    /// refuses: over a version, a record's length, an end of points, extra bytes, a VLR's data.
+    pub fn by_rule(&self) -> bool {
+        matches!(self.number, 3 | 8 | 12 | 23 | 24)
+    }
 }
 
 impl fmt::Display for Answer {

@@ -20,7 +20,9 @@ impl Call {
         Report::over(self.name, size, |report, stretch| {
             for i in stretch {
                 let (x, y) = input(i);
-                report.compare(rust(x, y), port(x, y), || format!("({x:#010x}, {y:#010x})"));
+                let rust = rust(x, y);
+                report.compare(rust, port(x, y), || format!("({x:#010x}, {y:#010x})"));
+                report.by_rule(rust.by_rule());
             }
         })
     }

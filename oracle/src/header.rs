@@ -201,12 +201,14 @@ fn compare_read(report: &mut Report, i: u64) {
                 && end == end_of_points(&h)
         } else {
             // below 1.0 and from 1.5 on the Rust reads on; the port refuses
-            let refused = wanted.number == 3 || Header::read_from(&bytes[..]).is_err();
+            let refused = wanted.by_rule() || Header::read_from(&bytes[..]).is_err();
             refused && found == BEFORE && length == 0 && count == wanted && end == wanted
         };
     report.check(agrees, || {
         format!("header {i}: port {port}, document 01 {wanted}")
     });
+    // a version that there isn't, or an end of points that the Rust can't tell
+    report.by_rule(wanted.by_rule() || end.by_rule());
 }
 
 /// Compares a write of what was read into enough room or too little.
@@ -235,13 +237,16 @@ fn compare_write(report: &mut Report, i: u64) {
     let agrees = if foreign {
         port == Answer::refusal(3, 256 + u64::from(h.version.minor)) && dst == untouched
     } else if dst.len() < size {
-        port == Answer::refusal(22, size as u64) && dst == untouched
+        // the Rust too fails in so little room
+        let failed = h.write_to(&mut untouched.clone()[..]).is_err();
+        failed && port == Answer::refusal(22, written.len() as u64) && dst == untouched
     } else {
         port == Answer::result(size as u64)
             && dst[..size] == written[..]
             && dst[size..] == untouched[size..]
     };
     report.check(agrees, || format!("header {i}: port {port}"));
+    report.by_rule(foreign);
 }
 
 pub fn compare(tally: &mut Tally) {

@@ -142,6 +142,7 @@ fn read(report: &mut Report, word: u32, bytes: &[u8]) {
         let bytes = shown(bytes);
         format!("({word:#010x}, {bytes}): Rust {rust:x?}, port {row:x?} {numbers:x?}")
     });
+    report.by_rule(rust.0.by_rule());
 }
 
 /// Compares the place and the count of the extra bytes, and so the bytes themselves. Where the read
@@ -161,6 +162,7 @@ fn extra(report: &mut Report, word: u32, bytes: &[u8]) {
         let (bytes, extra) = (shown(bytes), shown(&extra));
         format!("({word:#010x}, {bytes}): Rust {start} {extra}, port {at} {len}")
     });
+    report.by_rule(record_len(word) > LONGEST);
 }
 
 /// A point to write: the Rust's, and the numbers that stand for it. The destination has `room`.
@@ -224,6 +226,7 @@ impl Writing<'_> {
                 "({numbers:x?}, {extra}, {word:#010x}): Rust {rust} {of_rust}, port {port} {of_port}"
             )
         });
+        report.by_rule(rust.by_rule());
     }
 }
 

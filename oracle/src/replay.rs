@@ -69,9 +69,11 @@ pub fn compare(tally: &mut Tally, folder: &Path, write: bool) -> io::Result<()> 
     angles(&mut list);
     degrees(&mut list);
     angle_pairs(&mut list);
-    tally.add(list.report);
+    // A sample of what is asked above, and so no more inputs.
+    tally.aside(list.report);
     keep(tally, folder, write, list.stdin, list.stdout)
 }
+
 
 /// Writes a list into its folder, or compares it with what the folder has.
 pub(crate) fn keep(
@@ -99,7 +101,7 @@ pub(crate) fn keep(
                 format!("{} is not what the Rust answers", path.display())
             });
         }
-        tally.add(report);
+        tally.aside(report);
     } else {
         println!("no list in {}: --write-replay makes it", folder.display());
     }

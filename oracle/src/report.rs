@@ -9,6 +9,7 @@ const SHOWN: usize = 5;
 pub struct Report {
     name: &'static str,
     inputs: u64,
+    by_rule: u64,
     differences: u64,
     shown: Vec<String>,
 }
@@ -18,6 +19,7 @@ impl Report {
         Report {
             name,
             inputs: 0,
+            by_rule: 0,
             differences: 0,
             shown: Vec::new(),
         }
@@ -46,9 +48,16 @@ impl Report {
         }
     }
 
+    /// Says whether the Rust was not asked about the input just counted, or not for all of it: the
+    /// port was held to document 01's rule there, as this harness states it.
+    pub fn by_rule(&mut self, rule: bool) {
+        self.by_rule += u64::from(rule);
+    }
+
     /// Adds what another report on the same call came to.
     pub fn and(mut self, other: Report) -> Report {
         self.inputs += other.inputs;
+        self.by_rule += other.by_rule;
         self.differences += other.differences;
         self.shown.extend(other.shown);
         self.shown.truncate(SHOWN);
@@ -57,8 +66,8 @@ impl Report {
 
     fn print(&self) {
         println!(
-            "{:34}{:>14} inputs {:>11} differences",
-            self.name, self.inputs, self.differences
+            "{:34}{:>14} inputs {:>9} by rule {:>9} differences",
+            self.name, self.inputs, self.by_rule, self.differences
         );
         for line in &self.shown {
             println!("    {line}");
@@ -103,8 +112,14 @@ impl Tally {
 
     /// Prints a report and adds its numbers to the sum.
     pub fn add(&mut self, report: Report) {
-        report.print();
         self.0.inputs += report.inputs;
+        self.0.by_rule += report.by_rule;
+        self.aside(report);
+    }
+
+    /// Prints a report whose inputs are no new ones: of its numbers only the differences count.
+    pub fn aside(&mut self, report: Report) {
+        report.print();
         self.0.differences += report.differences;
     }
 

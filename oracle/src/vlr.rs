@@ -63,6 +63,11 @@ impl Case {
         })
     }
 
+    /// Whether the Rust can be asked: it panics at a length that no memory holds.
+    fn askable(&self) -> bool {
+        self.stated().is_none_or(|stated| stated <= 1 << 16)
+    }
+
     /// The bytes that the record wants in all, by document 01: 0 if over 2^64 - 1.
     pub fn wanted(&self) -> u64 {
         let head = head(self.extended) as u64;
@@ -80,12 +85,11 @@ pub(crate) fn length(vlr: &Vlr) -> u64 {
     u64::from(vlr.record_length_after_header)
 }
 
-/// Reads with the Rust, where it can be asked: a length that no memory holds makes it panic.
+/// Reads with the Rust, where it can be asked.
 fn read(case: &Case) -> Option<Vlr> {
-    match case.stated() {
-        Some(stated) if stated > 1 << 16 => None,
-        _ => Vlr::read_from(&case.bytes[..], case.extended).ok(),
-    }
+    case.askable()
+        .then(|| Vlr::read_from(&case.bytes[..], case.extended).ok())
+        .flatten()
 }
 
 /// The Rust's head as the port gives it.
@@ -117,6 +121,7 @@ fn compare_read(report: &mut Report, i: u64) {
         None => port == Answer::refusal(1, case.wanted()) && found == BEFORE && count == 0,
     };
     report.check(agrees, || format!("record {i}: port {port}"));
+    report.by_rule(!case.askable());
 }
 
 /// Compares a write of what was read, or of another length of data than stated, into enough room
@@ -147,13 +152,16 @@ fn compare_write(report: &mut Report, i: u64) {
     let agrees = if vlr.data.len() as u64 != stated {
         port == Answer::refusal(24, stated) && dst == untouched
     } else if dst.len() < bytes.len() {
-        port == Answer::refusal(22, bytes.len() as u64) && dst == untouched
+        // the Rust too fails in so little room
+        let failed = vlr.write_to(&mut untouched.clone()[..]).is_err();
+        failed && port == Answer::refusal(22, bytes.len() as u64) && dst == untouched
     } else {
         port == Answer::result(bytes.len() as u64)
             && dst[..bytes.len()] == bytes[..]
             && dst[bytes.len()..] == untouched[bytes.len()..]
     };
     report.check(agrees, || format!("record {i}: port {port}"));
+    report.by_rule(vlr.data.len() as u64 != stated);
 }
 
 pub fn compare(tally: &mut Tally) {

@@ -6,9 +6,6 @@ use lib.Dec.{eqb}
 use lib.ListN.{getD}
 use Rattle.le.specs.Real.{f64Of}
 use Rattle.le.specs.declared.float.F64.{F64}
-use Rattle.lent.specs.declared.Wrote.{Wrote}
-use Rattle.lent.specs.declared.Wrote.the-variants as wrote
-use Rattle.words.specs.Rows.{refusedRow}
 use Rattle.header.specs.declared.OptionU64.{OptionU64}
 use Rattle.header.specs.declared.OptionU64.the-variants as start
 use Rattle.header.specs.declared.OptionEvlr.{OptionEvlr}
@@ -108,11 +105,3 @@ headerFrom n guid system software =
       «has_large_file» = not (eqb (nth n 34) 0);
       «large_file» = largeFrom n;
     }
-
--- a write's row, whose value is the count of bytes, and the destination
-abbrev pub wroteRow : Wrote → List ℕ
-wroteRow (wrote.Bytes n) = 0 ∷ n ∷ 0 ∷ []
-wroteRow (wrote.Refused r) = refusedRow r 0
-
-abbrev pub writtenRow : Wrote × List ℕ → List ℕ × List ℕ
-writtenRow w = (wroteRow (w .0), w .1)

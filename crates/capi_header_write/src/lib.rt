@@ -3,7 +3,8 @@
 // they would be checked for a minute.
 ghost use mathlib.Core.Path.{_≡_};
 ghost use Rattle.header_write.specs.Wrote.{wroteOf};
-ghost use Rattle.capi_header_write.specs.Numbers.{lowFrom, startFrom, evlrFrom, largeFrom, nansFrom, headerFrom, writtenRow};
+ghost use Rattle.words.specs.Rows.{writtenRow};
+ghost use Rattle.capi_header_write.specs.Numbers.{lowFrom, startFrom, evlrFrom, largeFrom, nansFrom, headerFrom};
 use header::Evlr;
 use header::Header;
 use header::LargeFile;

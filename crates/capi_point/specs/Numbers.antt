@@ -8,8 +8,6 @@ use lib.ListN.{getD, length}
 use mir.Syntax.{w32}
 use mir.Val.{toZ, ofZ}
 use Rattle.le.specs.Real.{f32Of, f64Of, f64BitsOf, patternOf}
-use Rattle.lent.specs.declared.Wrote.{Wrote}
-use Rattle.lent.specs.declared.Wrote.the-variants as wrote
 use Rattle.words.specs.Words.{flagsOf, flagsWord, angleOf, angleWord}
 use Rattle.words.specs.Rows.{refusedRow}
 use Rattle.format.specs.declared.Format.{Format}
@@ -152,11 +150,3 @@ pointFrom n =
       waveform = maybeWaveformFrom n;
       nir = nirFrom (nth n 14) (nth n 15);
     }
-
--- a write's row, whose value is the count of bytes, and the destination
-abbrev pub wroteRow : Wrote → List ℕ
-wroteRow (wrote.Bytes n) = 0 ∷ n ∷ 0 ∷ []
-wroteRow (wrote.Refused r) = refusedRow r 0
-
-abbrev pub writtenRow : Wrote × List ℕ → List ℕ × List ℕ
-writtenRow w = (wroteRow (w .0), w .1)

@@ -3,8 +3,6 @@ use Prim.Native.Nat.{ℕ, _%_}
 use mathlib.Core.Bool.{Bool, true, false}
 use mathlib.Core.List.{List, [], _∷_}
 use lib.ListN.{getD, length}
-use Rattle.lent.specs.declared.Wrote.{Wrote}
-use Rattle.lent.specs.declared.Wrote.the-variants as wrote
 use Rattle.words.specs.Rows.{refusedRow}
 use Rattle.vlr.specs.declared.RecordLength.{RecordLength}
 use Rattle.vlr.specs.declared.RecordLength.the-variants as kind
@@ -45,11 +43,3 @@ vlrFrom extended n user-id description =
       «record_length_after_header» = lengthFrom extended (getD n 2 0);
       description = description;
     }
-
--- a write's row, whose value is the count of bytes, and the destination
-abbrev pub wroteRow : Wrote → List ℕ
-wroteRow (wrote.Bytes n) = 0 ∷ n ∷ 0 ∷ []
-wroteRow (wrote.Refused r) = refusedRow r 0
-
-abbrev pub writtenRow : Wrote × List ℕ → List ℕ × List ℕ
-writtenRow w = (wroteRow (w .0), w .1)

@@ -4,7 +4,8 @@
 ghost use mathlib.Core.Path.{_≡_};
 ghost use Rattle.vlr.specs.Layout.{headSize};
 ghost use Rattle.vlr.specs.Vlr.{readOf, writtenOf};
-ghost use Rattle.capi_vlr.specs.Rows.{numbersOf, readRow, dataPart, lengthFrom, vlrFrom, writtenRow};
+ghost use Rattle.words.specs.Rows.{writtenRow};
+ghost use Rattle.capi_vlr.specs.Rows.{numbersOf, readRow, dataPart, lengthFrom, vlrFrom};
 use lent::Wrote;
 use vlr::Extent;
 use vlr::RecordLength;

@@ -10,6 +10,7 @@ use lib.Ieee.Bits.{is-true}
 use lib.ListN.{length, take, drop, length-take}
 use lib.Seq.{length-take-le}
 use Rattle.le.specs.Le.{num}
+use Rattle.le.specs.Laws.{num-take}
 use Rattle.refusal.specs.declared.Refusal.{Refusal}
 use Rattle.refusal.specs.declared.Refusal.the-variants.{Short, Signature, Version as VersionRefusal}
 use Rattle.header.specs.declared.Version.{Version}
@@ -19,7 +20,7 @@ use Rattle.header.specs.declared.HeaderAnswer.{HeaderAnswer}
 use Rattle.header.specs.declared.HeaderAnswer.the-variants.{Whole, Refused}
 use Rattle.header.specs.Layout.{Field, FileSignature, VersionMajor, VersionMinor, HeaderSize, place, width, fields12, fields13, fields14, fieldsOf, size}
 use Rattle.header.specs.Header.{part, number, lasf}
-use Rattle.header.specs.Window.{num-take, part-take}
+use Rattle.header.specs.Window.{part-take}
 use Rattle.header.specs.Judged.{eqList, standardOf, versionOf, paddedTo, sized, versioned, judged}
 
 -- `eqList` tells whether two lists are the same
@@ -154,7 +155,7 @@ agreed s t {n} {e} p same =
     let w = within s p in
     let long : e ≤ length t = omega (arith, length-take e t, ap length same, length-take-le e s (w .2)) in
     let number-same : (f : Field) → place f + width f ≤ 227 → number f t ≡ number f s =
-    λ f h. sym (num-take e t (width f) (place f) (omega (arith, w .0, w .1))) ∙ ap (num (width f) (place f)) (sym same) ∙ num-take e s (width f) (place f) (omega (arith, w .0, w .1)) in
+    λ f h. sym (num-take (width f) (place f) t e (omega (arith, w .0, w .1))) ∙ ap (num (width f) (place f)) (sym same) ∙ num-take (width f) (place f) s e (omega (arith, w .0, w .1)) in
     let minors = number-same VersionMinor (omega arith) in
     let fields = number-same HeaderSize (omega arith) in
     whole t

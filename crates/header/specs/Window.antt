@@ -1,12 +1,12 @@
 -- What lies in the first k bytes is read the same from those alone.
 use Prim.Native.Nat.{ℕ, zero, suc, _+_, _-_, _≤_}
-use mathlib.Core.Path.{_≡_, refl, ap, _∙_}
+use mathlib.Core.Path.{_≡_, ap, _∙_}
 use mathlib.Core.List.{List, [], _∷_}
 use native.Mathlib.Nat.{sub-zero, zero-sub, suc-sub-suc}
 use native.Mathlib.Omega.{arith}
 use lib.ListN.{take, drop}
 use lib.Seq.{take-take, take-nil}
-use Rattle.le.specs.Le.{le, num, Bytes}
+use Rattle.le.specs.Le.{Bytes}
 
 pub drop-take : (k n : ℕ) (s : List ℕ) → drop k (take n s) ≡ take (n - k) (drop k s)
 drop-take zero n s = rw sub-zero
@@ -14,20 +14,8 @@ drop-take (suc k) zero s = rw zero-sub
 drop-take (suc k) (suc n) [] = rw take-nil
 drop-take (suc k) (suc n) (x ∷ s) = rw suc-sub-suc (drop-take k n s)
 
-le-take : (w k : ℕ) (s : List ℕ) → w ≤ k → le w (take k s) ≡ le w s
-unfolding le
-le-take zero k s h = refl
-le-take (suc w) zero s h = absurd (omega arith)
-le-take (suc w) (suc k) [] h = refl
-le-take (suc w) (suc k) (x ∷ s) h = rw (le-take w k s (omega arith))
-
-module _ (k : ℕ) (s : List ℕ) where
-  pub num-take : (w at : ℕ) → at + w ≤ k → num w at (take k s) ≡ num w at s
-  unfolding num
-  num-take w at h = ap (le w) (drop-take at k s) ∙ le-take w (k - at) (drop at s) (omega arith)
-
-  pub part-take : (n at : ℕ) → at + n ≤ k → take n (drop at (take k s)) ≡ take n (drop at s)
-  part-take n at h = ap (take n) (drop-take at k s) ∙ take-take n (k - at) (drop at s) (omega arith)
+pub part-take : (k : ℕ) (s : List ℕ) (n at : ℕ) → at + n ≤ k → take n (drop at (take k s)) ≡ take n (drop at s)
+part-take k s n at h = ap (take n) (drop-take at k s) ∙ take-take n (k - at) (drop at s) (omega arith)
 
 pub bytes-take : (n : ℕ) (s : List ℕ) → Bytes s → Bytes (take n s)
 bytes-take zero s b k = omega arith

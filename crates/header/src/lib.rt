@@ -1,7 +1,7 @@
 // The public header block of a LAS file, versions 1.0 to 1.4. From src/raw/header.rs and src/version.rs of las 0.11.2.
 ghost use mathlib.Core.Path.{_≡_};
-ghost use Prim.Native.Nat.{_+_, _≤_};
-ghost use lib.ListN.{length, take, drop};
+ghost use Prim.Native.Nat.{_≤_};
+ghost use lib.ListN.{length};
 ghost use Rattle.header.specs.Layout.{FileSignature, LegacyNumberOfPointsByReturn, NumberOfPointsByReturn};
 ghost use Rattle.header.specs.Header.{part, numbers, startOf, evlrOf, nansOf, headerOf, lasf, defaultHeader, pointsOf, endOf, endOfPoints};
 ghost use Rattle.header.specs.Judged.{eqList, standardOf, sized, versioned, judged, readOf, paddingOf};
@@ -298,13 +298,13 @@ fn read_block(b: &[u8]) -> Header
     Header {
         file_source_id: le::u16_at(b, 4),
         global_encoding: le::u16_at(b, 6),
-        guid: bytes16(b, 8),
+        guid: store::bytes16(b, 8),
         version: Version {
             major: le::u8_at(b, 24),
             minor,
         },
-        system_identifier: bytes32(b, 26),
-        generating_software: bytes32(b, 58),
+        system_identifier: store::bytes32(b, 26),
+        generating_software: store::bytes32(b, 58),
         file_creation_day_of_year: le::u16_at(b, 90),
         file_creation_year: le::u16_at(b, 92),
         header_size: le::u16_at(b, 94),
@@ -372,26 +372,6 @@ fn no_nans() -> Nans
         max_z: 0,
         min_z: 0,
     }
-}
-
-// The 16 bytes from `at` on.
-fn bytes16(s: &[u8], at: usize) -> [u8; 16]
-    requires { ⌜ at + 16 ≤ length (now s) ⌝ }
-    ensures { λ r. ⌜ r ≡ take 16 (drop at (now (s .entry))) ⌝ }
-{
-    let mut a = [0u8; 16];
-    lent::put(&mut a, &s[at..at + 16]);
-    a
-}
-
-// The 32 bytes from `at` on.
-fn bytes32(s: &[u8], at: usize) -> [u8; 32]
-    requires { ⌜ at + 32 ≤ length (now s) ⌝ }
-    ensures { λ r. ⌜ r ≡ take 32 (drop at (now (s .entry))) ⌝ }
-{
-    let mut a = [0u8; 32];
-    lent::put(&mut a, &s[at..at + 32]);
-    a
 }
 
 // The legacy counts by return.

@@ -11,7 +11,7 @@ use lib.Ieee.{Float}
 use lib.ListN.{length, take, length-append}
 use lib.Seq.{take-at, drop-at}
 use Rattle.le.specs.Le.{num, bytes}
-use Rattle.le.specs.Laws.{num-past}
+use Rattle.le.specs.Laws.{num-past, num-take}
 use Rattle.le.specs.Real.{f64Of}
 use Rattle.header.specs.declared.Header.{Header}
 use Rattle.header.specs.declared.LargeFile.{LargeFile}
@@ -20,7 +20,7 @@ use Rattle.header.specs.declared.HeaderAnswer.the-variants.{Whole}
 use Rattle.header.specs.Layout.{Field, FileSignature, FileSourceId, GlobalEncoding, Guid, VersionMajor, VersionMinor, SystemIdentifier, GeneratingSoftware, FileCreationDayOfYear, FileCreationYear, HeaderSize, OffsetToPointData, NumberOfVariableLengthRecords, PointDataRecordFormat, PointDataRecordLength, LegacyNumberOfPointRecords, LegacyNumberOfPointsByReturn, XScaleFactor, YScaleFactor, ZScaleFactor, XOffset, YOffset, ZOffset, MaxX, MinX, MaxY, MinY, MaxZ, MinZ, StartOfWaveformDataPacketRecord, StartOfFirstEvlr, NumberOfEvlrs, NumberOfPointRecords, NumberOfPointsByReturn, place, width, fields12, fields13, fields14, fieldsOf, size, large}
 use Rattle.header.specs.Header.{part, number, nums, startOf, evlrOf, nansOf, headerOf, lasf}
 use Rattle.header.specs.Judged.{paddedTo, judged, readBy, readOf, paddingBy, paddingOf}
-use Rattle.header.specs.Window.{num-take, part-take}
+use Rattle.header.specs.Window.{part-take}
 use Rattle.header.specs.Laws.{whole, size-least}
 use Rattle.header_write.specs.Bytes.{many, realBytes, fieldBytes, run, block}
 use Rattle.header_write.specs.Table.{All, none, _&_, first, others, each, split, follows, length-run, length-many}
@@ -186,7 +186,7 @@ module _ (h : Header) (padding : List ℕ) (r : Readable h padding) where
 
     number-first : (f : Field) → place f + width f ≤ 227 → number f written ≡ number f (block h)
     number-first f in-block =
-        sym (num-take end written (width f) (place f) (omega (arith, size-least (h .version .minor))))
+        sym (num-take (width f) (place f) written end (omega (arith, size-least (h .version .minor))))
         ∙ ap (num (width f) (place f)) block-first
 
     minor-first : number VersionMinor written ≡ h .version .minor

@@ -9,12 +9,13 @@ use lib.ListN.{length, take, drop, replicate, length-drop}
 use borrow.Author.Tests.{le-leb}
 use lib.Seq.{length-take-le, take-add, take-append-le, drop-append-le}
 use Rattle.le.specs.Le.{Bytes}
+use Rattle.le.specs.Laws.{num-take}
 use Rattle.lent.specs.declared.Wrote.the-variants as wrote
 use Rattle.header.specs.declared.HeaderAnswer.the-variants.{Whole}
 use Rattle.header.specs.Layout.{FileSignature, VersionMinor, StartOfFirstEvlr, NumberOfEvlrs, size, fieldsOf}
 use Rattle.header.specs.Header.{part, number, lasf, headerOf}
 use Rattle.header.specs.Judged.{versionOf, judged, readBy, readOf, paddingBy, paddingOf}
-use Rattle.header.specs.Window.{num-take, part-take, bytes-take}
+use Rattle.header.specs.Window.{part-take, bytes-take}
 use Rattle.header.specs.Laws.{accepted, within, standard-of}
 use Rattle.header_write.specs.Bytes.{block}
 use Rattle.header_write.specs.Wrote.{wroteBy, wroteOf}
@@ -29,17 +30,17 @@ cleared-then b p zeros h =
 module _ (s : List ℕ) (bytes : Bytes s) {n e : ℕ} (p : judged s ≡ Whole n e) where
   -- the numbers of the block are those of the list
   minor-same : number VersionMinor (take n s) ≡ number VersionMinor s
-  minor-same = num-take n s 1 25 (omega (arith, within s p .0))
+  minor-same = num-take 1 25 s n (omega (arith, within s p .0))
 
   module _ (four : number VersionMinor s ≡ 4) where
     large : n ≡ 375
     large = accepted s p .block ∙ ap (λ (k : ℕ). size (fieldsOf k)) four
 
     start-same : number StartOfFirstEvlr (take n s) ≡ number StartOfFirstEvlr s
-    start-same = num-take n s 8 235 (omega (arith, large))
+    start-same = num-take 8 235 s n (omega (arith, large))
 
     count-same : number NumberOfEvlrs (take n s) ≡ number NumberOfEvlrs s
-    count-same = num-take n s 4 243 (omega (arith, large))
+    count-same = num-take 4 243 s n (omega (arith, large))
 
   signed : part FileSignature (take n s) ≡ lasf
   signed = part-take n s 4 0 (omega (arith, within s p .0)) ∙ accepted s p .signature
@@ -77,7 +78,7 @@ module _ (s : List ℕ) (bytes : Bytes s) {n e : ℕ} (p : judged s ≡ Whole n 
   -- the answer and the buffer, where there is room
   version-same : readOf s .header .version ≡ versionOf s
   unfolding readOf readBy headerOf versionOf
-  version-same = rw p (λ i. record { major = num-take n s 1 24 (omega (arith, within s p .0)) i; minor = minor-same i })
+  version-same = rw p (λ i. record { major = num-take 1 24 s n (omega (arith, within s p .0)) i; minor = minor-same i })
 
   pub written-back : (d : List ℕ) {bs : List ℕ} → block (readOf s .header) ++ paddingOf s ≡ bs → e ≤ length d → wroteOf (readOf s .header) (paddingOf s) d ≡ (wrote.Bytes e, bs ++ drop e d)
   unfolding wroteOf wroteBy paddingOf paddingBy

@@ -1,8 +1,10 @@
-// Stores into a lent slice at a place. Every store is total: what would lie past the end is left out.
+// Stores into a lent slice at a place, and bytes copied out of one. All are total: what would lie past the end is left out, and
+// counts as 0.
 ghost use mathlib.Core.Path.{_≡_};
 ghost use mathlib.Core.List.{[], _∷_};
 ghost use lib.Seq.{sets};
 ghost use Rattle.le.specs.Le.{bytes};
+ghost use Rattle.store.specs.Window.{window};
 
 // Stores the bytes `v` from `at` on.
 pub fn set_bytes(d: &mut [u8], at: usize, v: &[u8])
@@ -43,4 +45,26 @@ pub fn set_u64(d: &mut [u8], at: usize, x: u64)
     ensures { λ _. ⌜ now (d .exit) ≡ sets (now (d .entry)) at (bytes 8 x) ⌝ }
 {
     set_bytes(d, at, &le::u64_bytes(x))
+}
+
+// The bytes of `s` from `at` on, copied; one past the end counts as 0.
+
+pub fn bytes16(s: &[u8], at: usize) -> [u8; 16]
+    ensures { λ r. ⌜ r ≡ window 16 at (now (s .entry)) ⌝ }
+{
+    let mut a = [0u8; 16];
+    if at < s.len() {
+        set_bytes(&mut a, 0, &s[at..]);
+    }
+    a
+}
+
+pub fn bytes32(s: &[u8], at: usize) -> [u8; 32]
+    ensures { λ r. ⌜ r ≡ window 32 at (now (s .entry)) ⌝ }
+{
+    let mut a = [0u8; 32];
+    if at < s.len() {
+        set_bytes(&mut a, 0, &s[at..]);
+    }
+    a
 }

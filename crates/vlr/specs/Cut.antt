@@ -1,12 +1,9 @@
 -- Bytes cut into fields that follow one another, for any table of widths and places.
-use Prim.Native.Nat.{ℕ, _+_, _^_, _≤_, _<_}
-use mathlib.Core.Path.{_≡_, refl, ap, sym, _∙_}
+use Prim.Native.Nat.{ℕ, _+_}
+use mathlib.Core.Path.{_≡_, refl}
 use mathlib.Core.List.{List, [], _∷_, _++_, map, append-assoc}
-use native.Mathlib.Omega.{arith}
-use lib.ListN.{length, take, drop, length-append, length-drop, take-append-drop}
-use lib.Seq.{getD-drop, take-add, drop-drop, drop-append-seam, take-at}
-use Rattle.le.specs.Le.{le, num, bytes, Bytes}
-use Rattle.le.specs.Laws.{le-bytes, bytes-le}
+use lib.ListN.{length, take, drop, length-append}
+use lib.Seq.{take-add, drop-drop, drop-append-seam, take-at}
 
 module _ {F : Type 0} where
   -- where each field starts, if the first starts at p and each other where the one before it ends
@@ -54,13 +51,3 @@ module _ {F : Type 0} where
         let first : part (width f) (place f) (a ++ ((g f ++ joined g fs) ++ c)) ≡ g f = rw (here, drop-append-seam, append-assoc) (take-at _ _ (width f) wide) in
         let others : map (λ f′. part (width f′) (place f′) (a ++ ((g f ++ joined g fs) ++ c))) fs ≡ map g fs = rw (append-assoc (g f), ← append-assoc a) (parts-joined g fs (a ++ g f) c rest lengths) in
         λ i. first i ∷ others i
-
--- the bytes of a number that was read, and the number of bytes that were written
-pub bytes-num : (w at : ℕ) (s : List ℕ) → Bytes s → at + w ≤ length s → bytes w (num w at s) ≡ part w at s
-unfolding num
-bytes-num w at s b h = bytes-le w (drop at s) (λ k. rw getD-drop (b (at + k))) (simp length-drop (omega arith))
-
-pub num-bytes : (w at x : ℕ) (s : List ℕ) → part w at s ≡ bytes w x → x < 256 ^ w → num w at s ≡ x
-unfolding num
-num-bytes w at x s e h =
-    ap (le w) (sym (take-append-drop w (drop at s)) ∙ ap (λ (l : List ℕ). l ++ drop w (drop at s)) e) ∙ le-bytes w x (drop w (drop at s)) h

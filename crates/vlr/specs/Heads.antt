@@ -7,12 +7,12 @@ use native.Mathlib.Omega.{arith}
 use lib.ListN.{length, getD, take, drop, length-append, length-drop}
 use lib.Seq.{take-add, length-take-le, take-append-seam, drop-append-seam}
 use Rattle.le.specs.Le.{Bytes as IsBytes}
-use Rattle.le.specs.Laws.{length-bytes, num-lt}
+use Rattle.le.specs.Laws.{length-bytes, num-lt, bytes-num, num-bytes}
 use Rattle.vlr.specs.declared.Extent.the-variants.{Bytes}
 use Rattle.vlr.specs.declared.RecordLength.{RecordLength}
 use Rattle.vlr.specs.declared.RecordLength.the-variants as kind
 use Rattle.vlr.specs.declared.Vlr.{Vlr}
-use Rattle.vlr.specs.Cut.{joined, part, bytes-num, num-bytes, joined-parts, parts-joined}
+use Rattle.vlr.specs.Cut.{joined, part, joined-parts, parts-joined}
 use Rattle.vlr.specs.Layout.{Field, Reserved, UserId, RecordId, LengthAfterHeader, Description, fields, width, place, headSize}
 use Rattle.vlr.specs.Places.{places-follow, head-sizes, description-last}
 use Rattle.vlr.specs.Vlr.{dataLength, isExtended, isEvlr, bytesIn, lengthOf, vlrOf, readOf, dataOf, lengthBytes, fieldBytes, headBytes, Typed}
@@ -64,8 +64,8 @@ typed extended s b h =
     below false = num-lt 2 s 20 b
 
 length-again : (n : RecordLength) (t : List ℕ) → dataLength n < 256 ^ width (isExtended n) LengthAfterHeader → bytesIn (isExtended n) LengthAfterHeader t ≡ lengthBytes n → lengthOf (isExtended n) t ≡ n
-length-again (kind.Vlr n) t h e = ap kind.Vlr (num-bytes 2 20 n t e h)
-length-again (kind.Evlr n) t h e = ap kind.Evlr (num-bytes 8 20 n t e h)
+length-again (kind.Vlr n) t h e = ap kind.Vlr (num-bytes 2 20 t n h e)
+length-again (kind.Evlr n) t h e = ap kind.Evlr (num-bytes 8 20 t n h e)
 
 -- a head that was written, read again
 pub head-again : (v : Vlr) (rest : List ℕ) → Typed v → vlrOf (isEvlr v) (headBytes v ++ rest) ≡ v
@@ -78,9 +78,9 @@ head-again v rest w =
     let parts : map (λ f. bytesIn e f t) fields ≡ map (fieldBytes v) fields = parts-joined (width e) (place e) (fieldBytes v) fields [] rest (places-follow e) widths in
     let at : (f : ℕ) → getD (map (λ f. bytesIn e f t) fields) f [] ≡ getD (map (fieldBytes v) fields) f [] = λ f. ap (λ (l : List (List ℕ)). getD l f []) parts in
     λ i. record {
-      reserved = num-bytes 2 0 (v .reserved) t (at 0) (w .reserved) i;
+      reserved = num-bytes 2 0 t (v .reserved) (w .reserved) (at 0) i;
       «user_id» = at 1 i;
-      «record_id» = num-bytes 2 18 (v .«record_id») t (at 2) (w .record-id) i;
+      «record_id» = num-bytes 2 18 t (v .«record_id») (w .record-id) (at 2) i;
       «record_length_after_header» = length-again n t (w .stated) (at 3) i;
       description = at 4 i;
     }

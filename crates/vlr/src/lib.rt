@@ -6,7 +6,7 @@ ghost use lib.ListN.{length};
 ghost use Rattle.refusal.specs.declared.Refusal.the-variants.{Short};
 ghost use Rattle.vlr.specs.declared.RecordLength.the-variants as kind;
 ghost use Rattle.vlr.specs.declared.Extent.the-variants as extent;
-ghost use Rattle.vlr.specs.Cut.{total, part};
+ghost use Rattle.vlr.specs.Cut.{total};
 ghost use Rattle.vlr.specs.Layout.{Description, fields, place, headSize};
 ghost use Rattle.vlr.specs.Put.{Put};
 ghost use Rattle.vlr.specs.Vlr.{dataLength, isExtended, lengthOf, vlrOf, noVlr, wanted, extentOf, readOf, dataOf, lengthBytes, fieldBytes, headBytes, writtenOf};
@@ -210,31 +210,11 @@ fn head(s: &[u8], extended: bool) -> Vlr
     let at = description_place(extended);
     Vlr {
         reserved: le::u16_at(s, 0),
-        user_id: array16(s, 2),
+        user_id: store::bytes16(s, 2),
         record_id: le::u16_at(s, 18),
         record_length_after_header,
-        description: array32(s, at),
+        description: store::bytes32(s, at),
     }
-}
-
-// The 16 bytes, or 32, of `s` from `at` on.
-
-fn array16(s: &[u8], at: usize) -> [u8; 16]
-    requires { ⌜ at + 16 ≤ length (now s) ⌝ }
-    ensures { λ r. ⌜ r ≡ part 16 at (now (s .entry)) ⌝ }
-{
-    let mut a = [0u8; 16];
-    lent::put(&mut a, &s[at..at + 16]);
-    a
-}
-
-fn array32(s: &[u8], at: usize) -> [u8; 32]
-    requires { ⌜ at + 32 ≤ length (now s) ⌝ }
-    ensures { λ r. ⌜ r ≡ part 32 at (now (s .entry)) ⌝ }
-{
-    let mut a = [0u8; 32];
-    lent::put(&mut a, &s[at..at + 32]);
-    a
 }
 
 // Writes a length's bytes into `dst` from `at` on, and answers where they end.

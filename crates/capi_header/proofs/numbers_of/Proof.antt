@@ -1,3 +1,4 @@
+-- Long since each of the 51 numbers comes from a call of its own: a name for each place, then the numbers in order.
 use mathlib.Core.Path.{_∙_}
 use mathlib.Core.List.{_∷_}
 use Rattle.header_write.specs.Bytes.{startBack}

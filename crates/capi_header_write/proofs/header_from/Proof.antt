@@ -1,3 +1,4 @@
+-- Long since a header has 32 fields, each from a call or a cast of its own: a name for each place, then the record.
 use mathlib.Core.Bool.{not}
 use lib.Dec.{eqb}
 use Rattle.capi_header_write.specs.Numbers.{nth, low8, low16, low32, headerFrom}

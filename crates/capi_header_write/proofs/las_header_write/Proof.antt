@@ -1,7 +1,8 @@
 use mathlib.Core.Path.{sym, ap, _∙_}
 use Rattle.header.specs.declared.Header.{Header}
 use Rattle.header_write.specs.Wrote.{wroteOf}
-use Rattle.capi_header_write.specs.Numbers.{headerFrom, wroteRow, writtenRow}
+use Rattle.words.specs.Rows.{wroteRow, writtenRow}
+use Rattle.capi_header_write.specs.Numbers.{headerFrom}
 use borrow.Author.Needs.{needs}
 use Rattle.capi_header_write.proofs.las_header_write.Statement.{statement}
 use Rattle.capi_header_write.proofs.las_header_write.Tie as tie

@@ -1,6 +1,6 @@
 use mathlib.Core.Path.{sym, ap, _∙_}
 use Rattle.point_write.specs.Write.{writtenOf}
-use Rattle.capi_point.specs.Numbers.{wroteRow, writtenRow}
+use Rattle.words.specs.Rows.{wroteRow, writtenRow}
 use borrow.Author.Needs.{needs}
 use Rattle.capi_point.proofs.las_point_write.Statement.{statement}
 use Rattle.capi_point.proofs.las_point_write.Tie as tie

@@ -1,7 +1,7 @@
 use mathlib.Core.Path.{sym, ap, _∙_}
 use Rattle.vlr.specs.declared.Vlr.{Vlr}
 use Rattle.vlr.specs.Vlr.{writtenOf}
-use Rattle.capi_vlr.specs.Rows.{wroteRow, writtenRow}
+use Rattle.words.specs.Rows.{wroteRow, writtenRow}
 use borrow.Author.Needs.{needs}
 use Rattle.capi_vlr.proofs.las_vlr_write.Statement.{statement}
 use Rattle.capi_vlr.proofs.las_vlr_write.Tie as tie

@@ -1,6 +1,9 @@
+-- Long since a header has 32 fields, each from a call of its own: a name for each place, then the record.
 use mathlib.Core.Path.{ap, _∙_}
 use borrow.Author.Needs.{needs}
+use native.Mathlib.Omega.{arith}
 use lib.Dec.{eqb}
+use Rattle.store.specs.Window.{window-is}
 use Rattle.header.specs.Header.{headerOf, startOf, evlrOf}
 use Rattle.header.proofs.read_block.Statement.{statement}
 use Rattle.header.proofs.read_block.Tie as tie
@@ -43,13 +46,14 @@ returns c =
     let c33 = c32 .before in
     let c34 = c33 .before in
     let c35 = c34 .before in
+    let b = c35 .before .before .args .b .now in
     λ i. record {
       «file_source_id» = c32 .u16-at .ensures i;
       «global_encoding» = c31 .u16-at2 .ensures i;
-      guid = c30 .bytes16 .ensures i;
+      guid = (c30 .bytes16 .ensures ∙ window-is 16 8 b (omega arith)) i;
       version = record { major = c29 .u8-at2 .ensures i; minor = c35 .u8-at .ensures i };
-      «system_identifier» = c28 .bytes32 .ensures i;
-      «generating_software» = c27 .bytes322 .ensures i;
+      «system_identifier» = (c28 .bytes32 .ensures ∙ window-is 32 26 b (omega arith)) i;
+      «generating_software» = (c27 .bytes322 .ensures ∙ window-is 32 58 b (omega arith)) i;
       «file_creation_day_of_year» = c26 .u16-at3 .ensures i;
       «file_creation_year» = c25 .u16-at4 .ensures i;
       «header_size» = c24 .u16-at5 .ensures i;

@@ -1,3 +1,4 @@
+-- Long since three layouts return, each with its own stores before it; what they share is said once, over the place in the code.
 use Prim.Native.Nat.{ℕ}
 use mathlib.Core.List.{[], _∷_, _++_}
 use mathlib.Core.Path.{refl, ap, _∙_}
@@ -6,59 +7,56 @@ use borrow.Author.Needs.{needs}
 use lib.Seq.{sets}
 use Rattle.header.specs.Layout.{StartOfWaveformDataPacketRecord, origin, contents, scales, bounds, large, fields12, fields13}
 use Rattle.le.specs.Le.{bytes}
-use Rattle.header_write.specs.Table.{stored, none, _&_, then}
+use Rattle.header_write.specs.Table.{Stored, stored, none, _&_, then}
 use Rattle.header_write.proofs.write_block.Statement.{statement}
 use Rattle.header_write.proofs.write_block.Tie as tie
 
+-- where the bounds are stored, all is that every version has
+module _ (b : tie.After-write-bounds) where
+  abbrev scaled : tie.After-write-scales
+  scaled = b .before .before .before .before
+
+  abbrev held : tie.After-write-contents
+  held = scaled .before .before .before .before
+
+  abbrev come : tie.After-write-origin
+  come = held .before .before .before .before
+
+  abbrev begun : tie.Start
+  begun = come .before .before .before
+
+  upTo12 : Stored (begun .args .h) (begun .args .dst .now) fields12 (b .write-bounds .last .1 .0)
+  upTo12 =
+      let h = begun .args .h in
+      then h (begun .args .dst .now) origin (contents ++ (scales ++ bounds)) (come .write-origin .ensures)
+      (then h (come .write-origin .last .1 .0) contents (scales ++ bounds) (held .write-contents .ensures)
+      (then h (held .write-contents .last .1 .0) scales bounds (scaled .write-scales .ensures) (b .write-bounds .ensures)))
+
+-- and where the waveform start is stored, what 1.3 adds
+module _ (w : tie.After-set-u64) where
+  abbrev bound : tie.After-write-bounds
+  bound = w .before .before .before .before .before .before
+
+  upTo13 : Stored (begun bound .args .h) (begun bound .args .dst .now) fields13 (w .set-u64 .last .0)
+  unfolding stored
+  upTo13 =
+      then (begun bound .args .h) (begun bound .args .dst .now) fields12 (StartOfWaveformDataPacketRecord ∷ []) (upTo12 bound)
+      (record { bytes = w .set-u64 .ensures ∙ ap (λ (k : ℕ). sets (bound .write-bounds .last .1 .0) 227 (bytes 8 k)) (w .before .start-back .ensures); wide = refl & none })
+
 returns : tie.Need-returns
-returns c =
-    let c3 = c .before .before .before in
-    let c7 = c3 .before .before .before .before in
-    let c11 = c7 .before .before .before .before in
-    let c15 = c11 .before .before .before .before in
-    let c18 = c15 .before .before .before in
-    let h = c18 .args .h in
-    let d = c18 .args .dst .now in
-    rw (lt-ltb _ _ (c .if1 .taken)) (then h d origin (contents ++ (scales ++ bounds)) (c15 .write-origin .ensures)
-    (then h (c15 .write-origin .last .1 .0) contents (scales ++ bounds) (c11 .write-contents .ensures)
-    (then h (c11 .write-contents .last .1 .0) scales bounds (c7 .write-scales .ensures) (c3 .write-bounds .ensures))))
+returns c = rw (lt-ltb _ _ (c .if1 .taken)) (upTo12 (c .before .before .before))
 
 returns-2 : tie.Need-returns-2
-unfolding stored
 returns-2 c =
-    let c3 = c .before .before .before in
-    let c4 = c3 .before in
-    let c6 = c4 .before .before in
-    let c9 = c6 .before .before .before in
-    let c13 = c9 .before .before .before .before in
-    let c17 = c13 .before .before .before .before in
-    let c21 = c17 .before .before .before .before in
-    let c24 = c21 .before .before .before in
-    let h = c24 .args .h in
-    let d = c24 .args .dst .now in
-    rw (le-ltb _ _ (c6 .if1 .left), lt-ltb _ _ (c .if2 .taken)) (then h d fields12 (StartOfWaveformDataPacketRecord ∷ []) (then h d origin (contents ++ (scales ++ bounds)) (c21 .write-origin .ensures)
-    (then h (c21 .write-origin .last .1 .0) contents (scales ++ bounds) (c17 .write-contents .ensures)
-    (then h (c17 .write-contents .last .1 .0) scales bounds (c13 .write-scales .ensures) (c9 .write-bounds .ensures))))
-    (record { bytes = c3 .set-u64 .ensures ∙ ap (λ (k : ℕ). sets (c9 .write-bounds .last .1 .0) 227 (bytes 8 k)) (c4 .start-back .ensures); wide = refl & none }))
+    let w = c .before .before .before in
+    rw (le-ltb _ _ (w .before .before .before .if1 .left), lt-ltb _ _ (c .if2 .taken)) (upTo13 w)
 
 returns-3 : tie.Need-returns-3
-unfolding stored
 returns-3 c =
-    let c4 = c .before .before .before .before in
-    let c7 = c4 .before .before .before in
-    let c8 = c7 .before in
-    let c10 = c8 .before .before in
-    let c13 = c10 .before .before .before in
-    let c17 = c13 .before .before .before .before in
-    let c21 = c17 .before .before .before .before in
-    let c25 = c21 .before .before .before .before in
-    let c28 = c25 .before .before .before in
-    let h = c28 .args .h in
-    let d = c28 .args .dst .now in
-    rw (le-ltb _ _ (c10 .if1 .left), le-ltb _ _ (c4 .if2 .left)) (then h d fields13 large (then h d fields12 (StartOfWaveformDataPacketRecord ∷ []) (then h d origin (contents ++ (scales ++ bounds)) (c25 .write-origin .ensures)
-    (then h (c25 .write-origin .last .1 .0) contents (scales ++ bounds) (c21 .write-contents .ensures)
-    (then h (c21 .write-contents .last .1 .0) scales bounds (c17 .write-scales .ensures) (c13 .write-bounds .ensures))))
-    (record { bytes = c7 .set-u64 .ensures ∙ ap (λ (k : ℕ). sets (c13 .write-bounds .last .1 .0) 227 (bytes 8 k)) (c8 .start-back .ensures); wide = refl & none })) (c .before .before .write-large .ensures))
+    let new = c .before .before .before .before in
+    let w = new .before .before .before in
+    let s = begun (bound w) .args in
+    rw (le-ltb _ _ (w .before .before .before .if1 .left), le-ltb _ _ (new .if2 .left)) (then (s .h) (s .dst .now) fields13 large (upTo13 w) (c .before .before .write-large .ensures))
 
 pub write-block-spec : {M : Type 1} → statement M
 write-block-spec =

@@ -35,7 +35,9 @@ returns c = rw (ne-eqb _ _ (c .if1 .taken))
 
 returns-2 : tie.Need-returns-2
 unfolding sizedOf
-returns-2 c = rw (eq-eqb _ _ (c .before .if1 .left), lt-ltb _ _ (c .if2 .taken))
+returns-2 c =
+    let a = c .before .before .before .before .before .args in
+    rw (eq-eqb _ _ (c .before .if1 .left), lt-ltb (length (a .dst .now)) (a .n) (omega arith))
 
 -- extended: the core is in place, and the rest fits behind it
 module _ (c : tie.After-put) where

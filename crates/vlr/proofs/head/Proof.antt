@@ -1,22 +1,23 @@
 use borrow.Author.Needs.{needs}
 use native.Mathlib.Omega.{arith}
+use Rattle.store.specs.Window.{window-is}
+use Rattle.vlr.specs.Layout.{Description, place}
 use Rattle.vlr.specs.Vlr.{vlrOf}
 use Rattle.vlr.specs.Places.{head-sizes, description-last}
 use Rattle.vlr.proofs.head.Statement.{statement}
 use Rattle.vlr.proofs.head.Tie as tie
 
-array16-requires : tie.Need-array16-requires
-array16-requires c κs = omega (arith, head-sizes (c .before .before .before .before .args .extended))
-
-array32-requires : tie.Need-array32-requires
-array32-requires c κs = omega (arith, description-last (c .before .before .before .before .before .before .args .extended))
-
+-- the two texts lie in the head
 returns : tie.Need-returns
 unfolding vlrOf
-returns c = cc
+returns c =
+    let a = c .before .before .before .before .before .before .before .args in
+    let e = a .extended in
+    cc (window-is 16 2 (a .s .now) (omega (arith, head-sizes e)), window-is 32 (place e Description) (a .s .now) (omega (arith, description-last e)))
 
 pub head-spec : {M : Type 1} → statement M
 head-spec =
     tie.close
     (tie.spec
-    (λ c κs. search needs) (λ c κs. search needs) (λ c κs. search needs) array16-requires (λ c κs. search needs) array32-requires returns)
+    (λ c κs. search needs) (λ c κs. search needs) (λ c κs. search needs) (λ c κs. search needs) (λ c κs. search needs)
+    (λ c κs. search needs) returns)

@@ -1,5 +1,5 @@
 -- What the five calls answered makes up the sum of the field table.
-use Prim.Native.Nat.{_+_}
+use Prim.Native.Nat.{_+_, _≤_, _<_}
 use mathlib.Core.Path.{_≡_}
 use borrow.Author.Needs.{needs}
 use borrow.Author.Tests.{lt-ltb, le-ltb}
@@ -14,11 +14,17 @@ total c = omega (arith, record-sum (c .before .before .before .before .before .a
 
 returns : tie.Need-returns
 unfolding lenOf
-returns c = rw (total (c .before .before), lt-ltb _ _ (c .if1 .taken))
+returns c =
+    let w = c .before .before in
+    let over : 65535 < recordBytes (w .before .before .before .before .before .args .self) = omega (arith, total w) in
+    rw (lt-ltb _ _ over, total w)
 
 returns-2 : tie.Need-returns-2
 unfolding lenOf
-returns-2 c = rw (total (c .before .before), le-ltb _ _ (c .if1 .left))
+returns-2 c =
+    let w = c .before .before in
+    let within : recordBytes (w .before .before .before .before .before .args .self) ≤ 65535 = omega (arith, total w) in
+    rw (le-ltb _ _ within, total w)
 
 pub len-spec : {M : Type 1} → statement M
 len-spec =

@@ -1,5 +1,5 @@
 use mathlib.Core.Path.{sym, ap, _∙_}
-use Rattle.point.specs.Read.{readAfter, readOf}
+use Rattle.point.specs.Read.{sizedOf, readAfter, readOf}
 use borrow.Author.Needs.{needs}
 use Rattle.point.proofs.Point.read_from.Statement.{statement}
 use Rattle.point.proofs.Point.read_from.Tie as tie
@@ -9,7 +9,7 @@ unfolding readOf
 returns c =
     let p = c .before .before in
     let a = p .before .before .before .before .args in
-    c .read-sized .ensures ∙ ap (readAfter (a .format) (a .s .now)) (sym (p .n .given .1) ∙ p .before .before .len .ensures)
+    _∙_ {b = sizedOf (a .format) (p .n .given .0 .0) (a .s .now)} (c .read-sized .ensures) (ap (readAfter (a .format) (a .s .now)) (sym (p .n .given .1) ∙ p .before .before .len .ensures))
 
 returns-2 : tie.Need-returns-2
 unfolding readOf

@@ -1,3 +1,4 @@
+-- Long since each refusal and the write itself return at a place of their own; what the calls before them told is said once.
 use Prim.Native.Nat.{_+_}
 use mathlib.Core.Path.{_≡_, ap, sym, _∙_}
 use mathlib.Core.List.{_++_}
