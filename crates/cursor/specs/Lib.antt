@@ -1,0 +1,4 @@
+pub mod Parts
+pub mod Cursor
+pub mod Laws
+pub mod Theorems
