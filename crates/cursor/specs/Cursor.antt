@@ -8,7 +8,9 @@ use Rattle.vlr.specs.declared.Extent.{Extent}
 use Rattle.vlr.specs.declared.Extent.the-variants as extent
 use Rattle.vlr.specs.Vlr.{extentOf}
 use Rattle.outline.specs.declared.Outline.{Outline}
-use Rattle.file.specs.Rules.{pointsEnd}
+use Rattle.file.specs.declared.Checked.{Checked}
+use Rattle.file.specs.declared.Checked.the-variants as checked
+use Rattle.file.specs.Rules.{pointsEnd, checkedOf}
 use Rattle.cursor.specs.declared.Kind.{Kind}
 use Rattle.cursor.specs.declared.Kind.the-variants as kind
 use Rattle.cursor.specs.declared.Part.{Part}
@@ -16,8 +18,10 @@ use Rattle.cursor.specs.declared.Plan.{Plan}
 use Rattle.cursor.specs.declared.Stage.{Stage}
 use Rattle.cursor.specs.declared.Stage.the-variants as stage
 use Rattle.cursor.specs.declared.Cursor.{Cursor}
+use Rattle.cursor.specs.declared.Started.{Started}
+use Rattle.cursor.specs.declared.Started.the-variants as started
 use Rattle.cursor.specs.declared.Step.{Step}
-use Rattle.cursor.specs.Parts.{part, gap, between, evlrsStart}
+use Rattle.cursor.specs.Parts.{part, gap, between, outlineIn, evlrsStart}
 
 -- the numbers of an outline that a cursor goes by
 unfoldable pub planOf : Outline → Plan
@@ -38,6 +42,15 @@ cursor stage at left p = record { stage = stage; at = at; left = left; plan = p 
 -- the cursor at the first part
 unfoldable pub firstOf : Plan → Cursor
 firstOf p = cursor stage.Header 0 0 p
+
+-- the file check's refusal, or the cursor
+abbrev pub startedBy : Checked → Cursor → Started
+startedBy (checked.Accepted n) c = started.At c
+startedBy (checked.Refused r k n) c = started.Refused r k
+
+-- What there is to tell of the file s, after the file check.
+unfoldable pub startedOf : ℕ → List ℕ → Started
+startedOf allowance s = startedBy (checkedOf allowance s) (firstOf (planOf (outlineIn s)))
 
 -- a part is told, and where to go on; or there is none, and the cursor stays
 abbrev pub told : Kind → ℕ → ℕ → Cursor → Step

@@ -6,7 +6,9 @@ use mathlib.Core.List.{List, [], _∷_, _++_}
 use lib.Dec.{eqb, ltb}
 use lib.ListN.{length, take, drop}
 use Rattle.vlr.specs.Vlr.{recordSize}
+use Rattle.header.specs.Judged.{readOf}
 use Rattle.outline.specs.declared.Outline.{Outline}
+use Rattle.outline.specs.Outline.{outlineOf}
 use Rattle.file.specs.Rules.{pointsEnd}
 use Rattle.cursor.specs.declared.Kind.{Kind}
 use Rattle.cursor.specs.declared.Kind.the-variants.{Header, Vlr, Gap, Points, Evlr}
@@ -30,6 +32,10 @@ recordParts kind extended zero at to s = gap at to
 recordParts kind extended (suc k) at to s =
     let n = recordSize extended (between at to s) in
     part kind at n ∷ recordParts kind extended k (at + n) to s
+
+-- what the header of the file s says of its parts
+abbrev pub outlineIn : List ℕ → Outline
+outlineIn s = outlineOf (readOf s .header)
 
 -- where the EVLRs start; without EVLRs, the end of the points
 unfoldable pub evlrsStart : Outline → ℕ

@@ -2,8 +2,13 @@
 // gap, the EVLRs and the gap after them; empty gaps are left out.
 ghost use mathlib.Core.Path.{_≡_};
 ghost use Prim.Native.Nat.{_<_, _-_};
-ghost use Rattle.cursor.specs.Parts.{between};
-ghost use Rattle.cursor.specs.Cursor.{told, ended, recordStep, headerStep, pointsStep, vlrsStep, evlrsStep, betweenStep, stepOf};
+ghost use Rattle.file.specs.Rules.{pointsEnd};
+ghost use Rattle.cursor.specs.Parts.{between, evlrsStart};
+ghost use Rattle.cursor.specs.Cursor.{planOf, firstOf, startedOf, told, ended, recordStep, headerStep, pointsStep, vlrsStep, evlrsStep, betweenStep, stepOf};
+use file::Checked;
+use header::Header;
+use outline::Outline;
+use refusal::Refusal;
 use vlr::Extent;
 
 pub enum Kind {
@@ -49,11 +54,69 @@ pub struct Cursor {
     pub plan: Plan,
 }
 
+// The cursor at the first part, or the file check's refusal with its record number.
+pub enum Started {
+    At(Cursor),
+    Refused { refusal: Refusal, record: u64 },
+}
+
 // A part and the cursor after it; without a part, an empty one and the cursor as it was.
 pub struct Step {
     pub has: bool,
     pub part: Part,
     pub next: Cursor,
+}
+
+// The cursor at the first part of the file, after the file check.
+pub fn start(file: &[u8], allowance: u64) -> Started
+    ensures { λ r. ⌜ r ≡ startedOf allowance (now (file .entry)) ⌝ }
+{
+    match file::check(file, allowance) {
+        Checked::Accepted { records: _ } => {
+            let read = Header::read_from(file);
+            let header = read.header;
+            Started::At(first(Outline::of(header)))
+        }
+        Checked::Refused {
+            refusal,
+            record,
+            records: _,
+        } => Started::Refused { refusal, record },
+    }
+}
+
+// The cursor at the first part.
+fn first(o: Outline) -> Cursor
+    requires { ⌜ pointsEnd o < 18446744073709551616 ⌝ }
+    ensures { λ r. ⌜ r ≡ firstOf (planOf o) ⌝ }
+{
+    let points = o.offset_to_point_data as u64;
+    let end = points + o.number_of_point_records * o.point_data_record_length as u64;
+    let plan = Plan {
+        header_size: o.header_size as u64,
+        number_of_vlrs: o.number_of_variable_length_records,
+        points,
+        end,
+        start_of_evlrs: start_of_evlrs(o, end),
+        number_of_evlrs: o.number_of_evlrs,
+    };
+    Cursor {
+        stage: Stage::Header,
+        at: 0,
+        left: 0,
+        plan,
+    }
+}
+
+// Where the EVLRs start; without EVLRs, the end of the points.
+fn start_of_evlrs(o: Outline, end: u64) -> u64
+    requires { ⌜ end ≡ pointsEnd o ⌝ }
+    ensures { λ r. ⌜ r ≡ evlrsStart o ⌝ }
+{
+    if o.number_of_evlrs == 0 {
+        return end;
+    }
+    o.start_of_first_evlr
 }
 
 // The part at the cursor and the cursor after it. After the last part, and at a record that is not all there, it has none and
