@@ -1,2 +1,4 @@
 pub mod Walk
 pub mod Laws
+pub mod Steps
+pub mod Theorems
