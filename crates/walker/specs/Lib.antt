@@ -1,3 +1,5 @@
+pub mod Begin
+pub mod Accepted
 pub mod Walk
 pub mod Laws
 pub mod Steps

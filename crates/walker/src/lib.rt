@@ -1,8 +1,16 @@
 // A walker over the points of a lent file: each record in turn, and at the end 27. Added by document 01.
 ghost use mathlib.Core.Path.{_≡_};
+ghost use Prim.Native.Nat.{_<_, _≤_};
+ghost use Rattle.file.specs.Rules.{formatBytes};
+ghost use Rattle.walker.specs.Begin.{filledOf, firstPlace, refusedPlace, beginOf, walkerOf};
+ghost use Rattle.walker.specs.Accepted.{Sized};
 ghost use Rattle.walker.specs.Walk.{wholeAt, recordOf, refusalOf, tookOf, nextOf};
+use file::Checked;
 use format::Format;
 use format::FormatLen;
+use format::NewFormat;
+use header::Header;
+use outline::Outline;
 use point::Point;
 use point::PointRead;
 use refusal::Refusal;
@@ -40,6 +48,14 @@ pub struct Walker<'a> {
 }
 
 impl<'a> Walker<'a> {
+    // A walker before the first point of an accepted file, or one that repeats the file check's refusal.
+    pub fn new(file: &'a [u8], allowance: u64) -> Walker<'a>
+        ensures { λ r. ⌜ r ≡ walkerOf allowance (file .entry) ⌝ }
+    {
+        let place = begin(file, allowance);
+        Walker { file, place }
+    }
+
     // The next record's point, and the walker moves on; after the last 27 with the point count, and the walker stays. A
     // refused walker repeats its refusal.
     pub fn next<'s>(&'s mut self) -> Walked
@@ -48,6 +64,65 @@ impl<'a> Walker<'a> {
         let took = take_at(self.file, self.place);
         self.place = took.next;
         took.answer
+    }
+}
+
+// Where a walker of this file starts: before its first point, or, refused by the file check, nowhere.
+pub fn begin(file: &[u8], allowance: u64) -> Place
+    ensures { λ r. ⌜ r ≡ beginOf allowance (now (file .entry)) ⌝ }
+{
+    match file::check(file, allowance) {
+        Checked::Accepted { records: _ } => {
+            let read = Header::read_from(file);
+            first_place(Outline::of(read.header))
+        }
+        Checked::Refused {
+            refusal,
+            record,
+            records: _,
+        } => refused_place(refusal, record),
+    }
+}
+
+// The place before the first point of an accepted file.
+fn first_place(o: Outline) -> Place
+    requires { ⌜ Sized o ⌝ }
+    ensures { λ r. ⌜ r ≡ firstPlace o ⌝ }
+{
+    Place {
+        format: format_of_length(o.point_data_record_format, o.point_data_record_length),
+        at: o.offset_to_point_data as usize,
+        left: o.number_of_point_records,
+        count: o.number_of_point_records,
+        start: Start::Accepted,
+    }
+}
+
+// The format with this code, whose extra bytes fill a record of this length.
+fn format_of_length(code: u8, length: u16) -> Format
+    requires { ⌜ (code < 11) × (formatBytes code ≤ «length») ⌝ }
+    ensures { λ r. ⌜ r ≡ filledOf code «length» ⌝ }
+{
+    let NewFormat::Is(mut format) = Format::new(code) else {
+        return Format::default();
+    };
+    let FormatLen::Is(n) = format.len() else {
+        return format;
+    };
+    format.extra_bytes = length - n;
+    format
+}
+
+// A place from which a walker repeats this refusal.
+fn refused_place(refusal: Refusal, record: u64) -> Place
+    ensures { λ r. ⌜ r ≡ refusedPlace refusal «record» ⌝ }
+{
+    Place {
+        format: Format::default(),
+        at: 0,
+        left: 0,
+        count: 0,
+        start: Start::Refused { refusal, record },
     }
 }
 
