@@ -3,22 +3,24 @@ use Prim.Native.Nat.{ℕ, zero, suc, _+_, _*_, _-_, _≤_, _<_}
 use mathlib.Core.Path.{_≡_, refl, ap, sym, _∙_}
 use mathlib.Core.Bool.{true, false, _&&_}
 use mathlib.Core.List.{List}
-use native.Mathlib.Nat.{suc-mul, zero-mul}
+use native.Mathlib.Nat.{suc-mul, zero-mul, mul-le-mul-right}
 use native.Mathlib.Omega.{arith}
 use borrow.Author.Tests.{le-leb, lt-ltb, le-ltb}
 use lib.Dec.{ltb, leb}
-use lib.ListN.{length, take, drop}
+use lib.ListN.{length, take, drop, length-drop}
+use lib.Seq.{length-take-le}
 use denote.Ref.{now}
 use Rattle.refusal.specs.declared.Refusal.the-variants.{Index}
 use Rattle.format.specs.Fields.{recordBytes}
-use Rattle.point.specs.Read.{pointOf}
+use Rattle.point.specs.declared.PointRead.the-variants.{Is}
+use Rattle.point.specs.Read.{pointOf, readOf}
 use Rattle.walker.specs.declared.Start.the-variants as start
 use Rattle.walker.specs.declared.Place.{Place}
 use Rattle.walker.specs.declared.Walked.{Walked}
 use Rattle.walker.specs.declared.Walked.the-variants.{Point, Refused}
 use Rattle.walker.specs.declared.Walker.{Walker}
 use Rattle.walker.specs.Walk.{hasNext, recordOf, refusalOf, after, tookOf, nextOf}
-use Rattle.walker.specs.Laws.{next-says}
+use Rattle.walker.specs.Laws.{read-whole, next-says}
 
 -- a walker after n answers, and its n-th answer, counted from 0
 abbrev pub walkedOn : ℕ → Walker → Walker
@@ -72,12 +74,14 @@ module _ (w : Walker) (r : Ready w) (left : 0 < w .place .left) where
       let h : w .place .at + m ≤ length (now (w .file)) = omega (arith, r .room, one-more (w .place .left) m left) in
       rw (r .accepted, le-leb _ _ (r .fits), lt-ltb _ _ left) (le-leb _ _ h)
 
+  first : recordOf (now (w .file)) (w .place) ≡ nthRecord 0 w
+  first =
+      let e : w .place .at ≡ w .place .at + 0 * m = omega (arith, zero-mul m) in
+      next-says (now (w .file)) (w .place) has .bytes ∙ ap (λ (k : ℕ). take m (drop k (now (w .file)))) e
+
   given : nextOf w ≡ (Point (pointOf (w .place .format) (nthRecord 0 w)), moved w)
   unfolding nextOf tookOf moved
-  given =
-      let e : w .place .at ≡ w .place .at + 0 * m = omega (arith, zero-mul m) in
-      let l = next-says (now (w .file)) (w .place) has .bytes ∙ ap (λ (k : ℕ). take m (drop k (now (w .file)))) e in
-      rw has (λ i. (Point (pointOf (w .place .format) (l i)), moved w))
+  given = rw has (λ i. (Point (pointOf (w .place .format) (first i)), moved w))
 
   ready : Ready (moved w)
   unfolding moved after
@@ -101,6 +105,25 @@ gives (suc n) w r h =
     ap (λ (x : Walked × Walker). answerOf n (x .1)) (given w r one)
     ∙ gives n (moved w) (ready w r one) fewer
     ∙ ap (λ (l : List ℕ). Point (pointOf (w .place .format) l)) (sym (shifted w r one n))
+
+-- which the point reader reads
+pub reads : (n : ℕ) (w : Walker) → Ready w → n < w .place .left → readOf (w .place .format) (nthRecord n w) ≡ Is (pointOf (w .place .format) (nthRecord n w))
+reads n w r h =
+    let m = recordBytes (w .place .format) in
+    let k = w .place .at + n * m in
+    let some : m ≤ length (drop k (now (w .file))) = rw length-drop (omega (arith, r .room, suc-mul n m, mul-le-mul-right m h)) in
+    read-whole (w .place .format) (nthRecord n w) (r .fits) (omega (arith, length-take-le m (drop k (now (w .file))) some))
+
+-- and which `record_at` gives before it
+pub shows : (n : ℕ) (w : Walker) → Ready w → n < w .place .left → recordOf (now (w .file)) (walkedOn n w .place) ≡ nthRecord n w
+unfolding moved after
+shows zero w r h = first w r h
+shows (suc n) w r h =
+    let one : 0 < w .place .left = omega arith in
+    let fewer : n < w .place .left - 1 = omega arith in
+    ap (λ (x : Walked × Walker). recordOf (now (w .file)) (walkedOn n (x .1) .place)) (given w r one)
+    ∙ shows n (moved w) (ready w r one) fewer
+    ∙ sym (shifted w r one n)
 
 -- what a walker of an accepted file answers where there is no next record
 pub by-count : (p : Place) → p .start ≡ start.Accepted → refusalOf p ≡ Refused (Index (p .count)) 0
