@@ -1,0 +1,6 @@
+pub mod Begin
+pub mod Walk
+pub mod Laws
+pub mod Steps
+pub mod Accepted
+pub mod Theorems
