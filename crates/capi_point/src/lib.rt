@@ -72,7 +72,7 @@ pub extern "C" fn las_point_write(
 }
 
 // A point's numbers.
-fn numbers_of(point: Point) -> [u64; 24]
+pub fn numbers_of(point: Point) -> [u64; 24]
     ensures { λ r. ⌜ r ≡ numbersOf point ⌝ }
 {
     let flags = point.flags;
