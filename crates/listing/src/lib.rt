@@ -1,0 +1,74 @@
+// The parts program's work: document 01, "The parts program reads standard input". What is printed is outside the logic, so
+// these functions promise only that they are safe and end; the numbers printed are those that the cursor and the file check
+// promise.
+use cursor::Cursor;
+use cursor::Kind;
+use cursor::Part;
+use cursor::Started;
+use libc::STDIN_FILENO;
+use libc::STDOUT_FILENO;
+use refusal::Row;
+
+// More records than 65,536 bytes hold, so that no file is refused for it.
+const ALLOWANCE: u64 = 1300;
+
+// Lists the first 65,536 bytes of standard input.
+pub fn run() {
+    let mut file = io::large_buffer();
+    let n = io::read_full(STDIN_FILENO, &mut file);
+    list(&file[..n]);
+}
+
+// Prints the parts of a file under their heading, or its refusal.
+pub fn list(file: &[u8]) {
+    match cursor::start(file, ALLOWANCE) {
+        Started::At(c) => list_parts(file, c),
+        Started::Refused { refusal, record } => print_refused(refusal.row(record)),
+    }
+}
+
+// A line for each part from the cursor on; ends early where nothing more can be written.
+fn list_parts(file: &[u8], c: Cursor) {
+    io::write_all(STDOUT_FILENO, b"kind start length\n");
+    let mut step = cursor::next(file, c);
+    while step.has {
+        if !print_part(step.part) {
+            return;
+        }
+        step = cursor::next(file, step.next);
+    }
+}
+
+// Prints a part's line, and says whether it could be written.
+fn print_part(part: Part) -> bool {
+    let kind = part.kind;
+    print_kind(kind);
+    print_number(part.start);
+    print_number(part.length);
+    io::write_all(STDOUT_FILENO, b"\n")
+}
+
+fn print_kind(kind: Kind) -> bool {
+    match kind {
+        Kind::Header => io::write_all(STDOUT_FILENO, b"header"),
+        Kind::Vlr => io::write_all(STDOUT_FILENO, b"vlr"),
+        Kind::Gap => io::write_all(STDOUT_FILENO, b"gap"),
+        Kind::Points => io::write_all(STDOUT_FILENO, b"points"),
+        Kind::Evlr => io::write_all(STDOUT_FILENO, b"evlr"),
+    }
+}
+
+// The line of a refusal: number, value and record number.
+fn print_refused(row: Row) {
+    io::write_all(STDOUT_FILENO, b"refused");
+    print_number(row.number as u64);
+    print_number(row.value);
+    print_number(row.record);
+    io::write_all(STDOUT_FILENO, b"\n");
+}
+
+// A number after a space.
+fn print_number(n: u64) {
+    io::write_all(STDOUT_FILENO, b" ");
+    io::print_decimal(STDOUT_FILENO, n);
+}
