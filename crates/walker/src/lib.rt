@@ -58,7 +58,7 @@ impl<'a> Walker<'a> {
 
     // The next record's point, and the walker moves on; after the last 27 with the point count, and the walker stays. A
     // refused walker repeats its refusal.
-    pub fn next<'s>(&'s mut self) -> Walked
+    pub fn next(&mut self) -> Walked
         ensures { λ r. ⌜ (r, now (self .exit)) ≡ nextOf (now (self .entry)) ⌝ }
     {
         let took = take_at(self.file, self.place);
