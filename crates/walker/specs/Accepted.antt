@@ -1,5 +1,5 @@
 -- What the file check's yes says of the points.
-use Prim.Native.Nat.{ℕ, _+_, _*_, _-_, _≤_, _<_}
+use Prim.Native.Nat.{ℕ, _+_, _*_, _-_, _≤_}
 use mathlib.Core.Path.{_≡_, refl, ap}
 use mathlib.Core.Bool.{false}
 use mathlib.Core.List.{List}
@@ -23,15 +23,10 @@ use Rattle.file.specs.declared.Checked.the-variants.{Accepted}
 use Rattle.file.specs.Rules.{formatBytes, pointsEnd, checkedOf}
 use Rattle.file.specs.Theorems.{accepted-holds}
 use Rattle.walker.specs.declared.Walker.{Walker}
-use Rattle.walker.specs.Begin.{withExtra, filledOf, firstPlace, beginOf, walkerOf}
+use Rattle.walker.specs.Begin.{withExtra, filledOf, Sized, firstPlace, beginOf, walkerOf}
 use Rattle.walker.specs.Steps.{Ready, nthRecord}
 
--- the format has a code, and its record fits the record length
-pub record Sized (o : Outline) : Type 0 where
-  pub code : o .«point_data_record_format» < 11
-  pub long : formatBytes (o .«point_data_record_format») ≤ o .«point_data_record_length»
-
--- so the format with its extra bytes is as long as the header's record length
+-- an accepted file's format with its extra bytes is as long as the header's record length
 pub filled-long : (o : Outline) → Sized o → recordBytes (filledOf (o .«point_data_record_format») (o .«point_data_record_length»)) ≡ o .«point_data_record_length»
 unfolding filledOf formatBytes coded
 filled-long o h =
