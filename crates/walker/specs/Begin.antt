@@ -1,5 +1,5 @@
 -- Where a walker starts: "starts with the file check and its refusals".
-use Prim.Native.Nat.{ℕ, _-_}
+use Prim.Native.Nat.{ℕ, _-_, _≤_, _<_}
 use mathlib.Core.Bool.{false}
 use mathlib.Core.List.{List}
 use denote.Ref.{RefT, now}
@@ -33,6 +33,11 @@ withExtra n f =
 -- the format of a code in records of a length: past the format's own bytes "The rest is extra bytes"
 unfoldable pub filledOf : ℕ → ℕ → Format
 filledOf code length = withExtra (length - formatBytes code) (coded code false)
+
+-- what rules 3 and 4 say of an accepted file: the format has a code, and its record fits the record length
+pub record Sized (o : Outline) : Type 0 where
+  pub code : o .«point_data_record_format» < 11
+  pub long : formatBytes (o .«point_data_record_format») ≤ o .«point_data_record_length»
 
 -- before the first point; the record length is the header's field
 unfoldable pub firstPlace : Outline → Place

@@ -18,7 +18,6 @@ use Rattle.point.specs.declared.Point as point
 use Rattle.point.specs.declared.PointRead.{PointRead}
 use Rattle.point.specs.declared.PointRead.the-variants.{Is, Refused}
 use Rattle.point.specs.Read.{pointOf, sizedOf, readAfter, readOf}
-use Rattle.walker.specs.declared.Start.the-variants as start
 use Rattle.walker.specs.declared.Place.{Place}
 use Rattle.walker.specs.declared.Walked.the-variants.{Point}
 use Rattle.walker.specs.declared.Took.{Took}

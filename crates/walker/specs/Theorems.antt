@@ -2,7 +2,7 @@
 -- gives each record in turn, and at the end answers 27 and stays."
 use Prim.Native.Nat.{ℕ, _+_, _*_, _≤_, _<_}
 use mathlib.Core.Path.{_≡_, ap, subst, _∙_}
-use mathlib.Core.Bool.{_&&_, and-false}
+use mathlib.Core.Bool.{and-false}
 use mathlib.Core.List.{List}
 use borrow.Author.Tests.{lt-leb}
 use lib.ListN.{length, take, drop}

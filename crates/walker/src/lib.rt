@@ -2,8 +2,7 @@
 ghost use mathlib.Core.Path.{_≡_};
 ghost use Prim.Native.Nat.{_<_, _≤_};
 ghost use Rattle.file.specs.Rules.{formatBytes};
-ghost use Rattle.walker.specs.Begin.{filledOf, firstPlace, refusedPlace, beginOf, walkerOf};
-ghost use Rattle.walker.specs.Accepted.{Sized};
+ghost use Rattle.walker.specs.Begin.{filledOf, Sized, firstPlace, refusedPlace, beginOf, walkerOf};
 ghost use Rattle.walker.specs.Walk.{wholeAt, recordOf, refusalOf, tookOf, nextOf};
 use file::Checked;
 use format::Format;
@@ -31,6 +30,7 @@ pub struct Place {
     pub start: Start,
 }
 
+// A point, or why there is none, with the record number of the file check's refusal.
 pub enum Walked {
     Point(Point),
     Refused { refusal: Refusal, record: u64 },
@@ -42,6 +42,7 @@ pub struct Took {
     pub next: Place,
 }
 
+// The lent file, and where the walker stands in it.
 pub struct Walker<'a> {
     pub file: &'a [u8],
     pub place: Place,
@@ -58,7 +59,7 @@ impl<'a> Walker<'a> {
 
     // The next record's point, and the walker moves on; after the last 27 with the point count, and the walker stays. A
     // refused walker repeats its refusal.
-    pub fn next<'s>(&'s mut self) -> Walked
+    pub fn next(&mut self) -> Walked
         ensures { λ r. ⌜ (r, now (self .exit)) ≡ nextOf (now (self .entry)) ⌝ }
     {
         let took = take_at(self.file, self.place);
@@ -98,7 +99,8 @@ fn first_place(o: Outline) -> Place
     }
 }
 
-// The format with this code, whose extra bytes fill a record of this length.
+// The format with this code, whose extra bytes fill a record of this length. A code below 11 has a format, of at most 67
+// bytes, so neither else is reached.
 fn format_of_length(code: u8, length: u16) -> Format
     requires { ⌜ (code < 11) × (formatBytes code ≤ «length») ⌝ }
     ensures { λ r. ⌜ r ≡ filledOf code «length» ⌝ }

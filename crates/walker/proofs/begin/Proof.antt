@@ -3,8 +3,6 @@ use borrow.Author.Needs.{needs}
 use Rattle.header.specs.declared.HeaderRead.{HeaderRead}
 use Rattle.header.specs.Judged.{readOf}
 use Rattle.outline.specs.Outline.{outlineOf}
-use Rattle.file.specs.declared.Checked.the-variants.{Accepted}
-use Rattle.file.specs.Rules.{checkedOf}
 use Rattle.walker.specs.Begin.{firstPlace, beginBy, beginOf}
 use Rattle.walker.specs.Accepted.{sized}
 use Rattle.walker.proofs.begin.Statement.{statement}

@@ -1,7 +1,8 @@
 -- `Walker::next` meets its contract: a walk of its MIR, by hand, since the walker stands behind a `&mut` and holds a reference. The borrow is opened, the file and the place are read, `take_at` is called, the place is set, and the borrow is closed.
 -- All that the proof knows of `take_at` is that it meets its contract. What the file owns can be had twice, and what a place or an answer owns are facts, which are made anew.
+-- The types of cells and fields are given by name: an answer's type has some hundred nodes, and antt would write it out wherever it had to find it. 16 and 144 are the places of a Walker's place and of a Took's.
 -- Assumes nothing.
-use mathlib.Core.Path.{_≡_, refl, ap, subst}
+use mathlib.Core.Path.{_≡_, refl, ap}
 use Prim.Native.Nat.{ℕ, _+_}
 use mathlib.Core.List.{List, [], _∷_}
 use lib.ListN.{length}
@@ -79,6 +80,7 @@ stayed = (stay-ref (0 ∷ []) tt behind, tt)
 abbrev TakeAt : {M : Type 1} (𝓤 : URA M) (H : Heap 𝓤) (A : Atoms 𝓤) (mem : Memory → SProp 𝓤) (run : Routine → Fun 𝓤) → Contract 𝓤
 TakeAt 𝓤 H A mem run = tripleOf 𝓤 H A take.signature (take.spec 𝓤 H A mem run)
 
+-- the file's type, as the cell behind a reference has it
 abbrev filed : Ty
 filed = tyStruct (38 ∷ 91 ∷ 93 ∷ []) (tcons (tyRef erased imm (tyInt w8)) (tcons (tyInt w64) tnil))
 
