@@ -1,7 +1,9 @@
 -- How many parts a cursor may have to tell.
 use Prim.Native.Nat.{ℕ, zero, suc, _+_, _-_, _≤_}
+use mathlib.Core.Path.{_≡_, ap, sym, _∙_}
 use mathlib.Core.Bool.{Bool, true, false, cond}
 use mathlib.Core.List.{List, [], _∷_, _++_}
+use native.Mathlib.Numerals.{add-one}
 use native.Mathlib.Omega.{arith}
 use lib.Dec.{ltb}
 use lib.ListN.{length, length-append}
@@ -15,8 +17,10 @@ use Rattle.cursor.specs.declared.Plan.{Plan}
 use Rattle.cursor.specs.declared.Stage.{Stage}
 use Rattle.cursor.specs.declared.Stage.the-variants as stage
 use Rattle.cursor.specs.declared.Cursor.{Cursor}
+use Rattle.cursor.specs.declared.Step.{Step}
 use Rattle.cursor.specs.Parts.{part, gap, between}
-use Rattle.cursor.specs.Cursor.{cursor, whenBytes, recordsFrom, evlrsFrom, endFrom, pointsFrom, vlrsFrom, leftOf}
+use Rattle.cursor.specs.Cursor.{cursor, whenBytes, recordsFrom, evlrsFrom, endFrom, pointsFrom, vlrsFrom, leftOf, stepOf, toldBy}
+use Rattle.cursor.specs.Laws.{left-step}
 
 gap-few : (from to : ℕ) → length (gap from to) ≤ 1
 unfolding gap
@@ -67,3 +71,15 @@ module _ (s : List ℕ) where
 
   pub few-left : (c : Cursor) → length (leftOf s c) ≤ c .left + c .plan .«number_of_vlrs» + c .plan .«number_of_evlrs» + 5
   few-left c = few-at (c .stage) (c .at) (c .left) (c .plan)
+
+-- a step that has a part tells one more than the cursor after it, one that has none tells none
+module _ (s : List ℕ) where
+  pub told-one : (r : Step) → r .has ≡ true → length (toldBy (leftOf s) r) ≡ length (leftOf s (r .next)) + 1
+  told-one r e = ap (λ (b : Bool). length (cond b (r .part ∷ leftOf s (r .next)) [])) e ∙ sym (add-one (length (leftOf s (r .next))))
+
+  pub told-none : (r : Step) → r .has ≡ false → length (toldBy (leftOf s) r) ≡ 0
+  told-none r e = ap (λ (b : Bool). length (cond b (r .part ∷ leftOf s (r .next)) [])) e
+
+  -- and the step at a cursor tells what is left there
+  pub told-all : (c : Cursor) (r : Step) → r ≡ stepOf s c → length (toldBy (leftOf s) r) ≡ length (leftOf s c)
+  told-all c r e = ap (λ (x : Step). length (toldBy (leftOf s) x)) e ∙ ap length (sym (left-step s c))

@@ -61,7 +61,7 @@ fn judge(file: &[u8], allowance: u64, room: usize) -> Filling
 }
 
 // How many parts there are from the cursor on.
-fn count(file: &[u8], c: Cursor) -> usize
+pub fn count(file: &[u8], c: Cursor) -> usize
     ensures { λ r. ⌜ r ≡ length (leftOf (now (file .entry)) c) ⌝ }
 {
     let mut n: usize = 0;

@@ -1,17 +1,11 @@
 -- The invariant: those counted and those that the step and its cursor have still to tell are all.
-use Prim.Native.Nat.{ℕ, _+_, _≤_, _<_}
-use mathlib.Core.Path.{_≡_, refl, ap, sym, _∙_}
-use mathlib.Core.Bool.{Bool, true, false, cond}
-use mathlib.Core.List.{List, [], _∷_}
-use native.Mathlib.Numerals.{add-one}
+use Prim.Native.Nat.{_+_}
+use mathlib.Core.Path.{_≡_}
 use native.Mathlib.Omega.{arith}
 use borrow.Author.Needs.{needs}
 use lib.ListN.{length}
-use Rattle.cursor.specs.declared.Cursor.{Cursor}
-use Rattle.cursor.specs.declared.Step.{Step}
-use Rattle.cursor.specs.Cursor.{stepOf, leftOf, toldBy}
-use Rattle.cursor.specs.Laws.{left-step}
-use Rattle.cursor.specs.Count.{few-left}
+use Rattle.cursor.specs.Cursor.{leftOf, toldBy}
+use Rattle.cursor.specs.Count.{few-left, told-one, told-none, told-all}
 use Rattle.parts.proofs.count.Statement.{statement}
 use Rattle.parts.proofs.count.Tie as tie
 
@@ -20,17 +14,6 @@ Inv-loop file n₀ step₀ n step = n + length (toldBy (leftOf file) step) ≡ l
 
 abbrev μ-loop : tie.MeasureT-loop
 μ-loop file n₀ step₀ n step = length (toldBy (leftOf file) step)
-
--- a step that has a part tells one more than the cursor after it
-told-one : (s : List ℕ) (r : Step) → r .has ≡ true → length (toldBy (leftOf s) r) ≡ length (leftOf s (r .next)) + 1
-told-one s r e = ap (λ (b : Bool). length (cond b (r .part ∷ leftOf s (r .next)) [])) e ∙ sym (add-one (length (leftOf s (r .next))))
-
-told-none : (s : List ℕ) (r : Step) → r .has ≡ false → length (toldBy (leftOf s) r) ≡ 0
-told-none s r e = ap (λ (b : Bool). length (cond b (r .part ∷ leftOf s (r .next)) [])) e
-
--- and the step at a cursor tells what is left there
-told-all : (s : List ℕ) (c : Cursor) (r : Step) → r ≡ stepOf s c → length (toldBy (leftOf s) r) ≡ length (leftOf s c)
-told-all s c r e = ap (λ (x : Step). length (toldBy (leftOf s) x)) e ∙ ap length (sym (left-step s c))
 
 loop-holds : tie.Need-loop-holds Inv-loop μ-loop
 loop-holds c = omega arith
