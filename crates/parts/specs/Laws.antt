@@ -21,7 +21,7 @@ use Rattle.cursor.specs.declared.Started.the-variants as started
 use Rattle.cursor.specs.Parts.{outlineIn, partsOf}
 use Rattle.cursor.specs.Cursor.{planOf, firstOf, startedBy, startedOf, leftOf}
 use Rattle.cursor.specs.Accepted.{laid}
-use Rattle.cursor.specs.Theorems.{first-tells}
+use Rattle.cursor.specs.Covers.{first-tells}
 use Rattle.parts.specs.declared.Tabled.{Tabled}
 use Rattle.parts.specs.declared.Tabled.the-variants as tabled
 use Rattle.parts.specs.declared.Filling.{Filling}
