@@ -1,6 +1,6 @@
 //! Runs every comparison and says whether nothing differed.
 
-use oracle::{angle, flags, format, header, point, replay, report::Tally, vlr};
+use oracle::{angle, file, flags, format, header, point, replay, report::Tally, vlr};
 use std::{env, io, path::Path, process::ExitCode};
 
 /// Compares everything. `folder` is where the replay list lies.
@@ -12,6 +12,7 @@ fn compare(folder: &Path, write: bool) -> io::Result<bool> {
     point::compare(&mut tally);
     vlr::compare(&mut tally);
     header::compare(&mut tally);
+    file::compare(&mut tally);
     replay::compare(&mut tally, folder, write)?;
     Ok(tally.agreed())
 }
