@@ -33,7 +33,7 @@ impl File {
         let points = usize::from(with_points) * ((start - offset) / RECORD);
         let mut put =
             |at: usize, number: &[u8]| bytes[at..][..number.len()].copy_from_slice(number);
-        put(0, b"LASF\0\0\0\0");
+        put(0, b"LASF");
         put(24, &[1, 4]);
         put(94, &(HEADER as u16).to_le_bytes());
         put(96, &(offset as u32).to_le_bytes());
