@@ -1,7 +1,10 @@
-//! Times the published Rust and the port side by side on points of format 3.
+//! Times the published Rust and the port side by side on points of format 3, and the port's file
+//! check on small and large files.
 //!
 //! Every round times each contender once, in turn, so that what slows the machine for a while slows
 //! them all. The median of the rounds is told, and the shortest.
+
+mod check;
 
 use las::{point::Format, raw::Point};
 use oracle::{
@@ -12,7 +15,7 @@ use std::{hint::black_box, time::Instant};
 
 const RECORDS: usize = 65_536;
 const RECORD: usize = 34;
-const ROUNDS: usize = 401;
+pub const ROUNDS: usize = 401;
 
 /// The records, what was read of them, and where they are written back. All of it has been written
 /// to before anything is timed.
@@ -187,4 +190,5 @@ fn main() {
     println!("{:28}{:>8}{:>8}{:>12}", "", "median", "ratio", "shortest");
     compare(&mut work, READS);
     compare(&mut work, WRITES);
+    check::compare();
 }

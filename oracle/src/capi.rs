@@ -271,6 +271,67 @@ pub fn header_write(header: &HeaderNumbers, padding: &[u8], dst: &mut [u8], row:
     }
 }
 
+/// A walker's place, as the crate `capi_file` keeps it: nothing here looks into it.
+pub type Place = [u64; 8];
+
+#[link(name = "capi_file", kind = "static")]
+unsafe extern "C" {
+    fn las_file_check(file: *const u8, len: usize, allowance: u64, row: &mut [u64; 4]);
+    fn las_file_parts(
+        file: *const u8,
+        len: usize,
+        allowance: u64,
+        table: *mut u64,
+        table_len: usize,
+        row: &mut Row,
+    );
+    fn las_file_walker(file: *const u8, len: usize, allowance: u64, place: &mut Place);
+    fn las_file_next(
+        file: *const u8,
+        len: usize,
+        place: &mut Place,
+        row: &mut Row,
+        numbers: &mut Numbers,
+    );
+    fn las_file_rewrite(
+        file: *const u8,
+        len: usize,
+        allowance: u64,
+        dst: *mut u8,
+        dst_len: usize,
+        row: &mut Row,
+    );
+}
+
+/// The row's fourth number is that of the records found whole.
+pub fn file_check(file: &[u8], allowance: u64, row: &mut [u64; 4]) {
+    // SAFETY: pointer and length are those of one borrowed slice.
+    unsafe { las_file_check(file.as_ptr(), file.len(), allowance, row) }
+}
+
+/// A part takes three numbers of the table: kind, start and length.
+pub fn file_parts(file: &[u8], allowance: u64, table: &mut [u64], row: &mut Row) {
+    let (to, to_len) = (table.as_mut_ptr(), table.len());
+    // SAFETY: both pointers go with the lengths of their borrowed slices.
+    unsafe { las_file_parts(file.as_ptr(), file.len(), allowance, to, to_len, row) }
+}
+
+pub fn file_walker(file: &[u8], allowance: u64, place: &mut Place) {
+    // SAFETY: pointer and length are those of one borrowed slice.
+    unsafe { las_file_walker(file.as_ptr(), file.len(), allowance, place) }
+}
+
+pub fn file_next(file: &[u8], place: &mut Place, row: &mut Row, numbers: &mut Numbers) {
+    // SAFETY: pointer and length are those of one borrowed slice.
+    unsafe { las_file_next(file.as_ptr(), file.len(), place, row, numbers) }
+}
+
+pub fn file_rewrite(file: &[u8], allowance: u64, dst: &mut [u8], row: &mut Row) {
+    let (to, to_len) = (dst.as_mut_ptr(), dst.len());
+    // SAFETY: both pointers go with the lengths of their borrowed slices.
+    unsafe { las_file_rewrite(file.as_ptr(), file.len(), allowance, to, to_len, row) }
+}
+
 /// Lends a row to a call and gives back what it holds then. The row starts out with words that no
 /// answer has, so a word left unwritten is a difference.
 pub fn row(call: impl FnOnce(&mut Row)) -> Answer {

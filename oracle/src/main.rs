@@ -1,6 +1,8 @@
 //! Runs every comparison and says whether nothing differed.
 
-use oracle::{angle, flags, format, header, point, replay, replay_records, report::Tally, vlr};
+use oracle::{
+    angle, file, flags, format, header, point, replay, replay_records, report::Tally, vlr,
+};
 use std::{env, io, path::Path, process::ExitCode};
 
 /// Compares everything. `crates` is where the programs lie that replay the lists.
@@ -12,6 +14,7 @@ fn compare(crates: &Path, write: bool) -> io::Result<bool> {
     point::compare(&mut tally);
     vlr::compare(&mut tally);
     header::compare(&mut tally);
+    file::compare(&mut tally);
     replay::compare(&mut tally, &crates.join("replay"), write)?;
     replay_records::compare(&mut tally, &crates.join("replay_records"), write)?;
     Ok(tally.agreed())

@@ -64,6 +64,11 @@ impl Report {
         self
     }
 
+    /// Whether nothing differed so far.
+    pub fn agrees(&self) -> bool {
+        self.differences == 0
+    }
+
     fn print(&self) {
         println!(
             "{:34}{:>14} inputs {:>9} by rule {:>9} differences",
@@ -74,32 +79,36 @@ impl Report {
         }
     }
 
-    /// Runs `part` over the numbers below `size`, cut into one stretch for each processor, and adds
-    /// the stretches up in their order, so that what is shown does not depend on the threads.
+    /// Runs `part` over the numbers below `size` and adds its reports up in their order, so that what
+    /// is shown does not depend on the threads.
     pub fn over(
         name: &'static str,
         size: u64,
         part: impl Fn(&mut Report, Range<u64>) + Sync,
     ) -> Report {
-        let threads = thread::available_parallelism().map_or(1, |n| n.get() as u64);
-        let part = &part;
-        thread::scope(|scope| {
-            let stretches: Vec<_> = (0..threads)
-                .map(|k| size * k / threads..size * (k + 1) / threads)
-                .map(|stretch| {
-                    scope.spawn(move || {
-                        let mut report = Report::new(name);
-                        part(&mut report, stretch);
-                        report
-                    })
-                })
-                .collect();
-            stretches
-                .into_iter()
-                .map(|thread| thread.join().unwrap_or_else(|e| panic::resume_unwind(e)))
-                .fold(Report::new(name), Report::and)
-        })
+        let reports = stretches(size, |stretch| {
+            let mut report = Report::new(name);
+            part(&mut report, stretch);
+            report
+        });
+        reports.into_iter().fold(Report::new(name), Report::and)
     }
+}
+
+/// What `part` comes to over the numbers below `size`, cut into one stretch for each processor.
+pub fn stretches<T: Send>(size: u64, part: impl Fn(Range<u64>) -> T + Sync) -> Vec<T> {
+    let threads = thread::available_parallelism().map_or(1, |n| n.get() as u64);
+    let part = &part;
+    thread::scope(|scope| {
+        let stretches: Vec<_> = (0..threads)
+            .map(|k| size * k / threads..size * (k + 1) / threads)
+            .map(|stretch| scope.spawn(move || part(stretch)))
+            .collect();
+        stretches
+            .into_iter()
+            .map(|thread| thread.join().unwrap_or_else(|e| panic::resume_unwind(e)))
+            .collect()
+    })
 }
 
 /// The sum of all reports.
@@ -126,6 +135,6 @@ impl Tally {
     /// Prints the sum and says whether nothing differed.
     pub fn agreed(&self) -> bool {
         self.0.print();
-        self.0.differences == 0
+        self.0.agrees()
     }
 }

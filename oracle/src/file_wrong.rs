@@ -1,0 +1,454 @@
+//! A stand-in for the port's calls on files, into which an error can be put. The comparison is tested
+//! with it: each error must be seen.
+//!
+//! It is written apart from `file_model` and otherwise: in 64 bits, one part after another.
+
+use crate::{
+    capi::{Numbers, Place, Row},
+    file::Library,
+    file_model::{EVLR, GAP, HEADER, POINTS, Part, VLR},
+    format, point,
+    records::record_len,
+};
+use las::{point::Format, raw::Point};
+
+/// What could be wrong in a port.
+#[derive(Clone, Copy, Debug, PartialEq, Eq)]
+pub enum Error {
+    SignatureAfterVersion,
+    PaddingNotRead,
+    FormatForVersionFirst,
+    LengthOfFormatForRecordLength,
+    PointOffsetAtEndRefused,
+    VlrsAfterStandardSize,
+    VlrsUpToEndOfFile,
+    ExtentBeforeAllowance,
+    AllowanceForVlrsOnly,
+    AllowanceForEachKind,
+    LengthThoughHeadEndsTooLate,
+    RecordNumbersAfresh,
+    CountNotAnsweredOnRefusal,
+    LargeCountFirst,
+    LargeCountIn32Bits,
+    ProductIn64Bits,
+    EvlrsBeforePoints,
+    EvlrStartAtEndRefused,
+    EvlrStartOnlyInFile,
+    EvlrLengthIn32Bits,
+    EvlrSumIn64Bits,
+    EvlrCountAlone,
+    LastGapDropped,
+    MiddleGapDropped,
+    EmptyGapsKept,
+    EmptyPointsOmitted,
+    TableFilledAsFarAsItGoes,
+    RestOfTableCleared,
+    RoomBeforeCheck,
+    WalkerWithoutExtraBytes,
+    WalkerStartsAgain,
+    WalkerAnswersHowManyItGave,
+    WalkerReadsPastWhatItIsShown,
+    NumbersClearedAtEnd,
+    HalfEvlrPairKept,
+    WholeEvlrPairCleared,
+    TrailingBytesNotCopied,
+    WritesBeforeItRefuses,
+}
+use Error::*;
+
+/// Every error that can be put in.
+pub const ERRORS: [Error; 38] = [
+    SignatureAfterVersion,
+    PaddingNotRead,
+    FormatForVersionFirst,
+    LengthOfFormatForRecordLength,
+    PointOffsetAtEndRefused,
+    VlrsAfterStandardSize,
+    VlrsUpToEndOfFile,
+    ExtentBeforeAllowance,
+    AllowanceForVlrsOnly,
+    AllowanceForEachKind,
+    LengthThoughHeadEndsTooLate,
+    RecordNumbersAfresh,
+    CountNotAnsweredOnRefusal,
+    LargeCountFirst,
+    LargeCountIn32Bits,
+    ProductIn64Bits,
+    EvlrsBeforePoints,
+    EvlrStartAtEndRefused,
+    EvlrStartOnlyInFile,
+    EvlrLengthIn32Bits,
+    EvlrSumIn64Bits,
+    EvlrCountAlone,
+    LastGapDropped,
+    MiddleGapDropped,
+    EmptyGapsKept,
+    EmptyPointsOmitted,
+    TableFilledAsFarAsItGoes,
+    RestOfTableCleared,
+    RoomBeforeCheck,
+    WalkerWithoutExtraBytes,
+    WalkerStartsAgain,
+    WalkerAnswersHowManyItGave,
+    WalkerReadsPastWhatItIsShown,
+    NumbersClearedAtEnd,
+    HalfEvlrPairKept,
+    WholeEvlrPairCleared,
+    TrailingBytesNotCopied,
+    WritesBeforeItRefuses,
+];
+
+pub struct StandIn {
+    pub error: Option<Error>,
+}
+
+/// What a check finds.
+#[derive(Default)]
+struct Sight {
+    whole: u64,
+    parts: Vec<Part>,
+    at: u64,
+    offset: u64,
+    points: u64,
+    length: u64,
+    format: u8,
+    evlrs: bool,
+}
+
+fn u16_at(file: &[u8], at: u64) -> u64 {
+    let at = at as usize;
+    u16::from_le_bytes([file[at], file[at + 1]]).into()
+}
+
+fn u32_at(file: &[u8], at: u64) -> u64 {
+    u16_at(file, at) | u16_at(file, at + 2) << 16
+}
+
+fn u64_at(file: &[u8], at: u64) -> u64 {
+    u32_at(file, at) | u32_at(file, at + 4) << 32
+}
+
+impl StandIn {
+    fn has(&self, error: Error) -> bool {
+        self.error == Some(error)
+    }
+
+    fn judge(&self, file: &[u8], allowance: u64, sight: &mut Sight) -> Result<(), Row> {
+        let end = file.len() as u64;
+        let short = |wanted| {
+            if end < wanted {
+                Err([1, wanted, 0])
+            } else {
+                Ok(())
+            }
+        };
+        let signed = || match u32_at(file, 0) {
+            0x4653_414c => Ok(()),
+            other => Err([2, other, 0]),
+        };
+        short(4)?;
+        if !self.has(SignatureAfterVersion) {
+            signed()?;
+        }
+        short(26)?;
+        let (standard, highest) = match (file[24], file[25]) {
+            (1, 0 | 1) => (227, 1),
+            (1, 2) => (227, 3),
+            (1, 3) => (235, 5),
+            (1, 4) => (375, 10),
+            (major, minor) => return Err([3, u64::from(major) << 8 | u64::from(minor), 0]),
+        };
+        signed()?;
+        let large = file[25] == 4;
+        short(standard)?;
+        let size = u16_at(file, 94);
+        if !self.has(PaddingNotRead) {
+            short(size)?;
+        }
+        if size < standard {
+            return Err([4, size, 0]);
+        }
+        sight.format = file[104];
+        let code = u64::from(sight.format);
+        if self.has(FormatForVersionFirst) && code > highest {
+            return Err([7, code, 0]);
+        }
+        match sight.format {
+            0..=10 if code > highest => return Err([7, code, 0]),
+            0..=10 => {}
+            11..=127 => return Err([5, code, 0]),
+            _ => return Err([6, code, 0]),
+        }
+        let least = record_len(format::word(format_of(sight.format))) as u64;
+        sight.length = u16_at(file, 105);
+        if sight.length < least {
+            return Err([8, sight.length, 0]);
+        }
+        if self.has(LengthOfFormatForRecordLength) {
+            sight.length = least;
+        }
+        sight.offset = u32_at(file, 96);
+        let offset = sight.offset;
+        let beyond = offset > end || self.has(PointOffsetAtEndRefused) && offset == end;
+        if offset < size || beyond {
+            return Err([9, offset, 0]);
+        }
+        sight.part(HEADER, 0, size);
+        if self.has(VlrsAfterStandardSize) {
+            sight.at = standard;
+        }
+        let until = if self.has(VlrsUpToEndOfFile) {
+            end
+        } else {
+            offset
+        };
+        for _ in 0..u32_at(file, 100) {
+            self.record(file, VLR, until, allowance, sight)?;
+        }
+        sight.gap(offset);
+        sight.points = match u32_at(file, 107) {
+            0 if large && self.has(LargeCountIn32Bits) => u32_at(file, 247),
+            0 if large => u64_at(file, 247),
+            _ if large && self.has(LargeCountFirst) => u64_at(file, 247),
+            legacy => legacy,
+        };
+        let (start, count) = match large {
+            true => (u64_at(file, 235), u32_at(file, 243)),
+            false => (0, 0),
+        };
+        let fits = |sight: &Sight| match self.has(ProductIn64Bits) {
+            true => offset.wrapping_add(sight.points.wrapping_mul(sight.length)) <= end,
+            false => sight.points <= (end - offset) / sight.length,
+        };
+        let no_points = [12, sight.points, 0];
+        if !fits(sight) && !self.has(EvlrsBeforePoints) {
+            return Err(no_points);
+        }
+        let bytes = sight.points.wrapping_mul(sight.length);
+        let point_end = offset.wrapping_add(bytes);
+        sight.part(POINTS, offset, bytes);
+        sight.evlrs = count != 0 && (start != 0 || self.has(EvlrCountAlone));
+        if sight.evlrs {
+            let late = start > end || self.has(EvlrStartAtEndRefused) && start == end;
+            let early = start < point_end && !self.has(EvlrStartOnlyInFile);
+            if early || late {
+                return Err([14, start, 0]);
+            }
+            sight.gap(start);
+            sight.at = start;
+            for _ in 0..count {
+                self.record(file, EVLR, end, allowance, sight)?;
+            }
+        }
+        if !fits(sight) {
+            return Err(no_points);
+        }
+        sight.gap(end);
+        Ok(())
+    }
+
+    /// The record at the place that the check has come to.
+    fn record(
+        &self,
+        file: &[u8],
+        kind: u64,
+        end: u64,
+        allowance: u64,
+        sight: &mut Sight,
+    ) -> Result<(), Row> {
+        let at = sight.at;
+        let (head, extent) = if kind == VLR { (54, 11) } else { (60, 13) };
+        let vlrs = sight.parts.iter().filter(|part| part[0] == VLR).count() as u64;
+        let record = 1 + match kind == EVLR && self.has(RecordNumbersAfresh) {
+            true => sight.whole - vlrs,
+            false => sight.whole,
+        };
+        let spent = match kind == EVLR {
+            true if self.has(AllowanceForVlrsOnly) => false,
+            true if self.has(AllowanceForEachKind) => sight.whole - vlrs == allowance,
+            _ => sight.whole == allowance,
+        };
+        if spent && !self.has(ExtentBeforeAllowance) {
+            return Err([10, allowance, record]);
+        }
+        let length = |at| match kind {
+            VLR => u16_at(file, at),
+            _ if self.has(EvlrLengthIn32Bits) => u32_at(file, at),
+            _ => u64_at(file, at),
+        };
+        if end - at.min(end) < head {
+            let told = self.has(LengthThoughHeadEndsTooLate) && at + 28 <= file.len() as u64;
+            let value = if told { length(at + 20) } else { 0 };
+            return Err([extent, value, record]);
+        }
+        let length = length(at + 20);
+        let beyond = match self.has(EvlrSumIn64Bits) {
+            true => (at + head).wrapping_add(length) > end,
+            false => length > end - at - head,
+        };
+        if beyond {
+            return Err([extent, length, record]);
+        }
+        if spent {
+            return Err([10, allowance, record]);
+        }
+        sight.whole += 1;
+        sight.part(kind, at, head.wrapping_add(length));
+        Ok(())
+    }
+
+    fn judged(&self, file: &[u8], allowance: u64) -> (Sight, Result<(), Row>) {
+        let mut sight = Sight::default();
+        let answer = self.judge(file, allowance, &mut sight);
+        (sight, answer)
+    }
+
+    /// Whether a part belongs into the table.
+    fn listed(&self, part: &Part, k: usize, count: usize) -> bool {
+        match *part {
+            [GAP, _, 0] => self.has(EmptyGapsKept),
+            [GAP, _, _] if k + 1 == count => !self.has(LastGapDropped),
+            [GAP, _, _] => !self.has(MiddleGapDropped),
+            [POINTS, _, 0] => !self.has(EmptyPointsOmitted),
+            _ => true,
+        }
+    }
+}
+
+impl Sight {
+    fn part(&mut self, kind: u64, start: u64, length: u64) {
+        self.parts.push([kind, start, length]);
+        self.at = start.wrapping_add(length);
+    }
+
+    /// The bytes up to the next part, perhaps none.
+    fn gap(&mut self, next: u64) {
+        self.parts.push([GAP, self.at, next.wrapping_sub(self.at)]);
+    }
+}
+
+fn format_of(code: u8) -> Format {
+    Format::new(code).expect("a format from 0 to 10")
+}
+
+/// A walker's place: number, value and record number of a refusal; the format and the record length;
+/// the count of points, the place of the next and how many have been given.
+impl Library for StandIn {
+    fn check(&self, file: &[u8], allowance: u64, row: &mut [u64; 4]) {
+        let (sight, answer) = self.judged(file, allowance);
+        *row = match answer {
+            Ok(()) => [0, 0, 0, sight.whole],
+            Err([number, value, record]) if self.has(CountNotAnsweredOnRefusal) => {
+                [number, value, record, 0]
+            }
+            Err([number, value, record]) => [number, value, record, sight.whole],
+        };
+    }
+
+    fn parts(&self, file: &[u8], allowance: u64, table: &mut [u64], row: &mut Row) {
+        let (sight, answer) = self.judged(file, allowance);
+        if self.has(RoomBeforeCheck) && table.len() < 9 {
+            *row = [22, 3, 0];
+            return;
+        }
+        if let Err(refusal) = answer {
+            *row = refusal;
+            return;
+        }
+        let count = sight.parts.len();
+        let parts = sight.parts.iter().enumerate();
+        let listed = parts.filter(|(k, part)| self.listed(part, *k, count));
+        let parts: Vec<Part> = listed.map(|(_, part)| *part).collect();
+        let wanted = parts.as_flattened();
+        *row = [0, parts.len() as u64, 0];
+        if table.len() < wanted.len() {
+            row[0] = 22;
+            if self.has(TableFilledAsFarAsItGoes) {
+                table.copy_from_slice(&wanted[..table.len()]);
+            }
+            return;
+        }
+        table[..wanted.len()].copy_from_slice(wanted);
+        if self.has(RestOfTableCleared) {
+            table[wanted.len()..].fill(0);
+        }
+    }
+
+    fn walker(&self, file: &[u8], allowance: u64, place: &mut Place) {
+        let (sight, answer) = self.judged(file, allowance);
+        let [number, value, record] = answer.err().unwrap_or([0; 3]);
+        *place = [
+            number,
+            value,
+            record,
+            sight.format.into(),
+            sight.length,
+            sight.points,
+            sight.offset,
+            0,
+        ];
+    }
+
+    fn next(&self, file: &[u8], place: &mut Place, row: &mut Row, numbers: &mut Numbers) {
+        let [number, value, record, code, length, points, at, given] = *place;
+        if number != 0 {
+            *row = [number, value, record];
+            return;
+        }
+        let shown = at + length <= file.len() as u64 || self.has(WalkerReadsPastWhatItIsShown);
+        if given == points || !shown {
+            *row = [27, points, 0];
+            if self.has(NumbersClearedAtEnd) {
+                numbers.fill(0);
+            }
+            if self.has(WalkerStartsAgain) {
+                place[6] -= given * length;
+                place[7] = 0;
+            }
+            if self.has(WalkerAnswersHowManyItGave) {
+                *row = [27, given, 0];
+            }
+            return;
+        }
+        let step = match self.has(WalkerWithoutExtraBytes) {
+            true => record_len(format::word(format_of(code as u8))) as u64,
+            false => length,
+        };
+        let start = (at as usize).min(file.len());
+        let mut bytes = file[start..].to_vec();
+        bytes.resize(bytes.len().max(length as usize), 0);
+        let point = Point::read_from(&bytes[..], &format_of(code as u8)).expect("a whole record");
+        *numbers = point::numbers(&point);
+        *row = [0; 3];
+        place[6] += step;
+        place[7] += 1;
+    }
+
+    fn rewrite(&self, file: &[u8], allowance: u64, dst: &mut [u8], row: &mut Row) {
+        let (sight, answer) = self.judged(file, allowance);
+        if self.has(WritesBeforeItRefuses) && file.len() >= 4 && dst.len() >= 4 {
+            dst[..4].copy_from_slice(&file[..4]);
+        }
+        if let Err(refusal) = answer {
+            *row = refusal;
+            return;
+        }
+        *row = [0, file.len() as u64, 0];
+        if dst.len() < file.len() {
+            row[0] = 22;
+            return;
+        }
+        let copied = match sight.parts.last() {
+            Some([GAP, start, _]) if self.has(TrailingBytesNotCopied) => *start as usize,
+            _ => file.len(),
+        };
+        dst[..copied].copy_from_slice(&file[..copied]);
+        let cleared = match sight.evlrs {
+            true => self.has(WholeEvlrPairCleared),
+            false => !self.has(HalfEvlrPairKept),
+        };
+        if file[25] == 4 && cleared {
+            dst[235..247].fill(0);
+        }
+    }
+}
