@@ -144,7 +144,7 @@ pub fn data(s: &[u8], extended: bool) -> &[u8]
 }
 
 // How many bytes the record at the start of `s` takes; 1 where they are not all there.
-fn measure(s: &[u8], extended: bool) -> Extent
+pub fn measure(s: &[u8], extended: bool) -> Extent
     ensures { λ r. ⌜ r ≡ extentOf extended (now (s .entry)) ⌝ }
 {
     let head = head_size(extended);
@@ -166,7 +166,7 @@ fn short(wanted: u64) -> Extent
 }
 
 // The bytes of a head.
-fn head_size(extended: bool) -> usize
+pub fn head_size(extended: bool) -> usize
     ensures { λ r. ⌜ r ≡ headSize extended ⌝ }
 {
     if extended { 60 } else { 54 }
@@ -190,8 +190,8 @@ fn sum(a: u64, b: u64) -> u64
     }
 }
 
-// The length that the head at the start of `s` states.
-fn stated(s: &[u8], extended: bool) -> RecordLength
+// The length that the head at the start of `s` states; a byte past the end counts as 0.
+pub fn stated(s: &[u8], extended: bool) -> RecordLength
     ensures { λ r. ⌜ r ≡ lengthOf extended (now (s .entry)) ⌝ }
 {
     if extended {
