@@ -1,14 +1,51 @@
 // Rewriting: each part of a file is read, and what its reader answers is written to the same place of the destination.
 ghost use mathlib.Core.Path.{_≡_};
 ghost use mathlib.Core.List.{_++_};
-ghost use Prim.Native.Nat.{_≤_};
+ghost use Prim.Native.Nat.{_≤_, _<_};
 ghost use lib.ListN.{length, drop};
-ghost use Rattle.rewrite.specs.Back.{HeaderPart, VlrPart, PointPart, PointsPart, headerBack, vlrBack, pointBack, pointsBack};
+ghost use Rattle.rewrite.specs.Back.{VlrPart, PointPart, PointsPart, HeaderPart, PartIs, HasFormat, pointFormat, headerBack, vlrBack, pointBack, pointsBack, partBack};
 use format::Format;
+use format::FormatLen;
+use format::NewFormat;
 use header::Header;
+use outline::Outline;
 use point::Point;
 use point::PointRead;
 use vlr::Vlr;
+
+pub enum Kind {
+    Header,
+    Vlr,
+    Gap,
+    Points,
+    Evlr,
+}
+
+// A part of a kind, to the front of the destination; what lies past it stays.
+fn rewrite_part(kind: Kind, src: &[u8], o: Outline, dst: &mut [u8])
+    requires { ⌜ PartIs o kind (now src) × (length (now src) ≤ length (now dst)) ⌝ }
+    ensures { λ _. ⌜ now (dst .exit) ≡ partBack o kind (now (src .entry)) ++ drop (length (now (src .entry))) (now (dst .entry)) ⌝ }
+{
+    match kind {
+        Kind::Header => rewrite_header(src, dst),
+        Kind::Vlr => rewrite_vlr(src, false, dst),
+        Kind::Gap => copy_gap(src, dst),
+        Kind::Points => {
+            let length = o.point_data_record_length as usize;
+            let count = o.number_of_point_records as usize;
+            rewrite_points(src, point_format(o), length, count, dst)
+        }
+        Kind::Evlr => rewrite_vlr(src, true, dst),
+    }
+}
+
+// The bytes of a gap, as they are.
+fn copy_gap(src: &[u8], dst: &mut [u8])
+    requires { ⌜ length (now src) ≤ length (now dst) ⌝ }
+    ensures { λ _. ⌜ now (dst .exit) ≡ now (src .entry) ++ drop (length (now (src .entry))) (now (dst .entry)) ⌝ }
+{
+    lent::put(dst, src);
+}
 
 // The header and its padding, written from what their readers answer.
 fn rewrite_header(src: &[u8], dst: &mut [u8])
@@ -40,6 +77,21 @@ fn rewrite_points(src: &[u8], format: Format, record_length: usize, count: usize
         at += record_length;
         left -= 1;
     }
+}
+
+// The format of the file's points: the header's, and what its record length has beyond that is extra bytes.
+fn point_format(o: Outline) -> Format
+    requires { ⌜ HasFormat o ⌝ }
+    ensures { λ r. ⌜ r ≡ pointFormat o ⌝ }
+{
+    let NewFormat::Is(mut format) = Format::new(o.point_data_record_format) else {
+        return Format::default();
+    };
+    let FormatLen::Is(n) = format.len() else {
+        return Format::default();
+    };
+    format.extra_bytes = o.point_data_record_length - n;
+    format
 }
 
 // A point and its extra bytes, written from what their readers answer.
