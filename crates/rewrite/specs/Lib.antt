@@ -1,3 +1,5 @@
 pub mod Back
 pub mod Laws
 pub mod Pair
+pub mod Rewritten
+pub mod Whole

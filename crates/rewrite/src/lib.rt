@@ -21,6 +21,12 @@ pub enum Kind {
     Evlr,
 }
 
+pub struct Part {
+    pub kind: Kind,
+    pub start: usize,
+    pub length: usize,
+}
+
 // A part of a kind, to the front of the destination; what lies past it stays.
 fn rewrite_part(kind: Kind, src: &[u8], o: Outline, dst: &mut [u8])
     requires { ⌜ PartIs o kind (now src) × (length (now src) ≤ length (now dst)) ⌝ }
