@@ -1,0 +1,25 @@
+use Prim.Native.Nat.{_+_, _-_}
+use borrow.Author.Needs.{needs}
+use Rattle.file.specs.declared.Checked.the-variants.{Accepted}
+use Rattle.file.specs.Rules.{partRules, vlrRules, vlrBytes, pointRule, evlrRules, recordsOf}
+use Rattle.file.proofs.Then.{then-refused, then-accepted}
+use Rattle.file.proofs.check_parts.Statement.{statement}
+use Rattle.file.proofs.check_parts.Tie as tie
+
+returns : tie.Need-returns
+unfolding partRules vlrRules vlrBytes
+returns c =
+    let a = c .before .before .before .before .before .before .before .args in
+    then-refused (vlrRules (a .allowance) (a .o) (a .file .now)) _ (Accepted (recordsOf (a .o))) _ (c .before .before .check-records .ensures) (c .enum-told2 .given .1)
+
+returns-2 : tie.Need-returns-2
+unfolding partRules vlrRules vlrBytes
+returns-2 c =
+    let a = c .before .before .before .before .before .before .before .before .args in
+    then-accepted (vlrRules (a .allowance) (a .o) (a .file .now)) _ (Accepted (recordsOf (a .o))) _ (c .before .before .before .check-records .ensures) (c .before .enum-told .given .1) (c .check-points .ensures)
+
+pub check-parts-spec : {M : Type 1} → statement M
+check-parts-spec =
+    tie.close
+    (tie.spec
+    (λ c. search needs) (λ c. search needs) (λ c. search needs) (λ c. search needs) (λ c. search needs) (λ c κs. search needs) (λ c. search needs) (λ c. search needs) returns (λ c κs. search needs) returns-2)

@@ -1,0 +1,116 @@
+-- Laws of the rules.
+use Prim.Native.Nat.{ℕ, zero, suc, _+_, _-_, _≤_, _<_}
+use mathlib.Core.Path.{_≡_, refl, subst}
+use mathlib.Core.Bool.{Bool, true, false, cond, _&&_}
+use mathlib.Core.List.{List, [], _∷_, _++_}
+use native.Mathlib.Omega.{arith}
+use borrow.Author.Tests.{lt-ltb, le-ltb}
+use lib.Dec.{eqb, ltb}
+use lib.ListN.{length}
+use Rattle.refusal.specs.declared.Refusal.{Refusal}
+use Rattle.refusal.specs.declared.Refusal.the-variants.{Version as VersionRefusal}
+use Rattle.format.specs.declared.NewFormat.the-variants as new
+use Rattle.format.specs.declared.FormatLen.the-variants as len
+use Rattle.format.specs.Codes.{coded, formatOf}
+use Rattle.format.specs.Fields.{recordBytes, lenOf}
+use Rattle.format.specs.Laws.{record-sum, when-le}
+use Rattle.header.specs.declared.HeaderAnswer.{HeaderAnswer}
+use Rattle.header.specs.declared.HeaderAnswer.the-variants as answer
+use Rattle.header.specs.declared.StandardSize.the-variants as standard
+use Rattle.header.specs.Layout.{FileSignature, HeaderSize}
+use Rattle.header.specs.Header.{part, number, lasf}
+use Rattle.header.specs.Judged.{eqList, standardOf, versionOf, sized, versioned, judged, readBy, readOf}
+use Rattle.file.specs.declared.Checked.{Checked}
+use Rattle.file.specs.declared.Checked.the-variants.{Accepted, Refused}
+use Rattle.file.specs.Rules.{Rule, rule, recordNumber, refusedBy, first, formatBytes}
+
+-- all rules of a list hold
+abbrev pub All : List Rule → Type 0
+All [] = Unit
+All (r ∷ rs) = (r .holds ≡ true) × All rs
+
+-- the first of two lists, one after the other
+pub first-append : (xs ys : List Rule) (done : Checked) → first (xs ++ ys) done ≡ first xs (first ys done)
+unfolding first
+first-append [] ys done = refl
+first-append (x ∷ xs) ys done = rw (first-append xs ys done)
+
+-- where all hold there is no refusal
+pub all-hold : (rs : List Rule) (done : Checked) → All rs → first rs done ≡ done
+unfolding first
+all-hold [] done a = refl
+all-hold (r ∷ rs) done (h, a) = rw h (all-hold rs done a)
+
+-- an answer that is no refusal says that all hold
+pub accepted-all : (rs : List Rule) {n m : ℕ} → first rs (Accepted n) ≡ Accepted m → All rs × (n ≡ m)
+unfolding first
+accepted-all [] p = (tt, cc)
+accepted-all (r ∷ rs) {n} {m} p = go (r .holds) refl p (accepted-all rs)
+  where
+    go : (b : Bool) → r .holds ≡ b → cond b (first rs (Accepted n)) (refusedBy r) ≡ Accepted m → (first rs (Accepted n) ≡ Accepted m → All rs × (n ≡ m)) → All (r ∷ rs) × (n ≡ m)
+    go true q h later = let a = later h in ((q, a .0), a .1)
+    go false q h later = let z : _≡_ {A = ℕ} 0 1 = cc in absurd (omega arith)
+
+-- a refusal stays whatever would follow
+pub refused-first : (rs : List Rule) (done : Checked) (n : ℕ) {r : Refusal} {k m : ℕ} → first rs (Accepted n) ≡ Refused r k m → first rs done ≡ Refused r k m
+unfolding first
+refused-first [] done n p = let z : _≡_ {A = ℕ} 0 1 = cc in absurd (omega arith)
+refused-first (x ∷ xs) done n {r} {k} {m} p = go (x .holds) p (refused-first xs done n)
+  where
+    go : (b : Bool) → cond b (first xs (Accepted n)) (refusedBy x) ≡ Refused r k m → (first xs (Accepted n) ≡ Refused r k m → first xs done ≡ Refused r k m) → cond b (first xs done) (refusedBy x) ≡ Refused r k m
+    go true h later = later h
+    go false h later = h
+
+-- the header reader answers as rule 1 judges
+pub answer-is : (s : List ℕ) → readOf s .answer ≡ judged s
+unfolding readOf readBy
+answer-is s = go (judged s)
+  where
+    go : (a : HeaderAnswer) → readBy a s .answer ≡ a
+    go (answer.Whole n e) = refl
+    go (answer.Refused r) = refl
+
+-- rule 1 names no record
+abbrev Unnumbered : HeaderAnswer → Type 0
+Unnumbered (answer.Whole n e) = Unit
+Unnumbered (answer.Refused r) = recordNumber r 0 ≡ 0
+
+either : (b : Bool) (x y : HeaderAnswer) → Unnumbered x → Unnumbered y → Unnumbered (cond b x y)
+either true x y p q = p
+either false x y p q = q
+
+unnumbered : (s : List ℕ) → Unnumbered (judged s)
+unfolding judged versioned standardOf sized recordNumber
+unnumbered s =
+    either (ltb (length s) 4) _ _ refl
+    (either (eqList (part FileSignature s) lasf) _ _ (either (ltb (length s) 26) _ _ refl (size (eqb (versionOf s .major) 1 && ltb (versionOf s .minor) 5) _ _)) refl)
+  where
+    size : (b : Bool) (n r : ℕ) → Unnumbered (sized (cond b (standard.Is n) (standard.Refused (VersionRefusal r))) s)
+    size true n r = either (ltb (length s) n) _ _ refl (either (ltb (length s) (number HeaderSize s)) _ _ refl tt)
+    size false n r = refl
+
+pub header-number : (s : List ℕ) {r : Refusal} → judged s ≡ answer.Refused r → recordNumber r 0 ≡ 0
+header-number s p = subst Unnumbered p (unnumbered s)
+
+-- the format of a code, and the bytes of its record
+pub has-format : (f : ℕ) → f < 11 → formatOf f ≡ new.Is (coded f false)
+unfolding formatOf
+has-format f h = rw (lt-ltb _ _ h)
+
+pub format-bytes : (f : ℕ) → (20 ≤ formatBytes f) × (formatBytes f ≤ 67)
+unfolding formatBytes coded
+format-bytes f =
+    let g = coded f false in
+    let e = when-le (g .«is_extended») 2 in
+    let t = when-le (g .«has_gps_time») 8 in
+    let c = when-le (g .«has_color») 6 in
+    let i = when-le (g .«has_nir») 2 in
+    let w = when-le (g .«has_waveform») 29 in
+    (omega (arith, record-sum g), omega (arith, record-sum g, e, t, c, i, w))
+
+pub has-length : (f : ℕ) → lenOf (coded f false) ≡ len.Is (formatBytes f)
+unfolding formatBytes lenOf
+has-length f = rw (le-ltb 65535 (recordBytes (coded f false)) (omega (arith, format-bytes f .1)))
+
+pub uncompressed : (f : ℕ) → f ≤ 10 → ltb f 128 ≡ true
+uncompressed f h = lt-ltb f 128 (omega arith)
