@@ -1,7 +1,7 @@
 -- Of bytes, what stands for a part is the part itself, but for the header's EVLR pair.
 use Prim.Native.Nat.{ℕ, zero, suc, _+_, _*_, _≤_}
 use mathlib.Core.Path.{_≡_, refl, ap, sym, _∙_}
-use mathlib.Core.Bool.{Bool, false}
+use mathlib.Core.Bool.{Bool, true, false}
 use mathlib.Core.Logic.{_⊎_}
 use mathlib.Core.List.{List, _++_}
 use native.Mathlib.Nat.{suc-mul, zero-mul}
@@ -21,11 +21,16 @@ use Rattle.point.specs.Read.{pointOf, sizedOf, readAfter, readOf, extraOf}
 use Rattle.point_write.specs.Write.{recordOf}
 use Rattle.point_write.specs.Answered.{answered}
 use Rattle.point_write.specs.Theorems.{read-then-written}
+use Rattle.vlr.specs.declared.RecordLength.{RecordLength}
+use Rattle.vlr.specs.declared.RecordLength.the-variants as kind
+use Rattle.vlr.specs.Layout.{headSize}
+use Rattle.vlr.specs.Vlr.{dataLength, lengthOf, recordSize}
+use Rattle.vlr.specs.Vlr as vlr-read
 use Rattle.vlr.specs.Laws as vlr
 use Rattle.vlr.specs.Heads.{record-back}
 use Rattle.header.specs.Layout.{VersionMinor, StartOfFirstEvlr, NumberOfEvlrs}
 use Rattle.header.specs.Header.{number}
-use Rattle.header.specs.Window.{bytes-take}
+use Rattle.header.specs.Window.{num-take, bytes-take}
 use Rattle.header_write.specs.Back.{Paired}
 use Rattle.header_write.specs.Theorems as header
 use Rattle.outline.specs.declared.Outline.{Outline}
@@ -83,12 +88,25 @@ format-length o has =
 pub part-same : (f : Format) (m k : ℕ) (s : List ℕ) → PointsPart f m k s → Bytes s → pointsBack f m k s ≡ s
 part-same f m k s whole bytes = points-same f m k s (whole .0) (omega (arith, whole .1)) bytes ∙ take-all (k * m) s (omega (arith, whole .1))
 
+-- a record's length stands in its head
+length-cut : (extended : Bool) (s : List ℕ) (n : ℕ) → headSize extended ≤ n → lengthOf extended (take n s) ≡ lengthOf extended s
+length-cut true s n h = ap kind.Evlr (num-take n s 8 20 (omega arith))
+length-cut false s n h = ap kind.Vlr (num-take n s 2 20 (omega arith))
+
 pub vlr-same : (extended : Bool) (s : List ℕ) → VlrPart extended s → Bytes s → vlrBack extended s ≡ s
 unfolding vlrBack
 vlr-same extended s whole bytes =
     let w = vlr.read-accepted extended s whole in
     let r = vlr.read-whole extended s (length s) w in
     rw (r .0, r .1) (record-back extended s (length s) bytes w ∙ take-length s)
+
+-- a record that ends in the bytes, cut from them, is whole
+pub record-whole : (extended : Bool) (s : List ℕ) → recordSize extended s ≤ length s → VlrPart extended (take (recordSize extended s) s)
+unfolding recordSize vlr-read.readOf
+record-whole extended s h =
+    let n = headSize extended + dataLength (lengthOf extended s) in
+    let long : length (take n s) ≡ n = length-take-le n s h in
+    rw long (vlr.takes extended (take n s) n (record { size = ap (λ (l : RecordLength). headSize extended + dataLength l) (sym (length-cut extended s n (omega arith))); there = omega arith }))
 
 -- the header, by its EVLR pair
 module _ (s : List ℕ) (whole : HeaderPart s) (bytes : Bytes s) where

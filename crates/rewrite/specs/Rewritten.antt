@@ -32,10 +32,10 @@ pub record At (o : Outline) (s : List ℕ) (at : ℕ) (p : Part) : Type 0 where
   pub ends : at + p .length ≤ length s
   pub whole : PartIs o (p .kind) (bytesOf s p)
 
--- parts from a place to the end of the file, each beginning where the one before it ends
-abbrev pub Tiles : Outline → List ℕ → ℕ → List Part → Type 0
-Tiles o s at [] = at ≡ length s
-Tiles o s at (p ∷ ps) = At o s at p × Tiles o s (at + p .length) ps
+-- parts from one place to another, each beginning where the one before it ends
+abbrev pub Tiles : Outline → List ℕ → ℕ → List Part → ℕ → Type 0
+Tiles o s at [] end = at ≡ end
+Tiles o s at (p ∷ ps) end = At o s at p × Tiles o s (at + p .length) ps end
 
 -- the first alone is a header
 abbrev pub NoHeader : List Part → Type 0

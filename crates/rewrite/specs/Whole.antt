@@ -19,6 +19,11 @@ use Rattle.rewrite.specs.Pair.{written, header-written, length-written, 
 use Rattle.rewrite.specs.Rewritten.{bytesOf, backOf, isHeader, At, Tiles, NoHeader, HeaderFirst}
 
 module _ (o : Outline) where
+  -- some parts and then others
+  pub tiles-append : (s : List ℕ) (a b c : ℕ) (xs ys : List Part) → Tiles o s a xs b → Tiles o s b ys c → Tiles o s a (xs ++ ys) c
+  tiles-append s a b c [] ys t u = rw t u
+  tiles-append s a b c (x ∷ xs) ys (h, t) u = (h, tiles-append s (a + x .length) b c xs ys t u)
+
   -- every part but a header is itself
   pub body-same : (k : Kind) (t : List ℕ) → PartIs o k t → Bytes t → isHeader k ≡ false → partBack o k t ≡ t
   unfolding partBack PartIs
@@ -48,12 +53,12 @@ module _ (o : Outline) where
     pub length-back : (at : ℕ) (p : Part) → At o s at p → length (partBack o (p .kind) (bytesOf s p)) ≡ p .length
     length-back at p a = part-length (p .kind) (bytesOf s p) (a .whole) (bytes-part p) ∙ length-part at p a
 
-    pub length-tiles : (at : ℕ) (ps : List Part) → Tiles o s at ps → at + length (backOf o s ps) ≡ length s
+    pub length-tiles : (at end : ℕ) (ps : List Part) → Tiles o s at ps end → at + length (backOf o s ps) ≡ end
     unfolding backOf
-    length-tiles at [] t = omega (arith, t)
-    length-tiles at (p ∷ ps) (a, t) = rw length-append (omega (arith, length-back at p a, length-tiles (at + p .length) ps t))
+    length-tiles at end [] t = omega (arith, t)
+    length-tiles at end (p ∷ ps) (a, t) = rw length-append (omega (arith, length-back at p a, length-tiles (at + p .length) end ps t))
 
-    pub tiles-same : (at : ℕ) (ps : List Part) → Tiles o s at ps → NoHeader ps → backOf o s ps ≡ drop at s
+    pub tiles-same : (at : ℕ) (ps : List Part) → Tiles o s at ps (length s) → NoHeader ps → backOf o s ps ≡ drop at s
     unfolding backOf
     tiles-same at [] t none = rw t (sym (drop-length s))
     tiles-same at (p ∷ ps) (a, t) (body, none) =
@@ -61,7 +66,7 @@ module _ (o : Outline) where
         rw (first, tiles-same (at + p .length) ps t none, ← (drop-drop (p .length) at s)) (take-append-drop (p .length) (drop at s))
 
     -- the header and all that follows it
-    pub whole-same : (ps : List Part) → Tiles o s 0 ps → HeaderFirst ps → backOf o s ps ≡ written s
+    pub whole-same : (ps : List Part) → Tiles o s 0 ps (length s) → HeaderFirst ps → backOf o s ps ≡ written s
     unfolding backOf partBack PartIs
     whole-same [] t first = absurd first
     whole-same (p ∷ ps) (a, t) (is, none) =
