@@ -1,0 +1,26 @@
+use borrow.Author.Needs.{needs}
+use native.Mathlib.Omega.{arith}
+use Rattle.file.specs.Rules.{pointsEnd}
+use Rattle.cursor.specs.Cursor.{planOf, firstOf}
+use Rattle.cursor.proofs.first.Statement.{statement}
+use Rattle.cursor.proofs.first.Tie as tie
+
+-- product and sum are below the end of the points
+mul-end : tie.Need-mul-end
+unfolding pointsEnd
+mul-end c = record { fits = omega arith }
+
+add-end : tie.Need-add-end
+unfolding pointsEnd
+add-end c = record { fits = omega arith }
+
+start-of-evlrs-requires : tie.Need-start-of-evlrs-requires
+unfolding pointsEnd
+start-of-evlrs-requires c κs = search needs
+
+returns : tie.Need-returns
+unfolding firstOf planOf pointsEnd
+returns c = rw (← (c .start-of-evlrs .ensures))
+
+pub first-spec : {M : Type 1} → statement M
+first-spec = tie.close (tie.spec (λ c. search needs) (λ c. search needs) mul-end add-end (λ c. search needs) start-of-evlrs-requires returns)

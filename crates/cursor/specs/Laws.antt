@@ -1,0 +1,110 @@
+-- Laws of the cursor: a step tells the first of the parts that are left, and a record that is told ends where it must.
+use Prim.Native.Nat.{ℕ, zero, suc, _+_, _-_, _≤_}
+use mathlib.Core.Path.{_≡_, refl, ap, sym}
+use mathlib.Core.Bool.{Bool, true, false, cond}
+use mathlib.Core.List.{List, [], _∷_, _++_}
+use native.Mathlib.Nat.{min-le-left, sub-zero, zero-sub, suc-sub-suc}
+use native.Mathlib.Omega.{arith}
+use borrow.Author.Tests.{lt-ltb, le-ltb}
+use lib.Dec.{ltb}
+use lib.ListN.{length, take, drop, length-take}
+use lib.Seq.{take-nil, drop-drop}
+use Rattle.vlr.specs.declared.Extent.{Extent}
+use Rattle.vlr.specs.declared.Extent.the-variants as extent
+use Rattle.vlr.specs.Layout.{headSize}
+use Rattle.vlr.specs.Vlr.{recordSize, extentOf}
+use Rattle.vlr.specs.Laws.{Whole, accepted}
+use Rattle.cursor.specs.declared.Kind.{Kind}
+use Rattle.cursor.specs.declared.Kind.the-variants as kind
+use Rattle.cursor.specs.declared.Part.{Part}
+use Rattle.cursor.specs.declared.Plan.{Plan}
+use Rattle.cursor.specs.declared.Stage.{Stage}
+use Rattle.cursor.specs.declared.Stage.the-variants as stage
+use Rattle.cursor.specs.declared.Cursor.{Cursor}
+use Rattle.cursor.specs.declared.Step.{Step}
+use Rattle.cursor.specs.Parts.{part, gap, between}
+use Rattle.cursor.specs.Cursor.{cursor, told, ended, pastGap, whenBytes, recordStep, pointsStep, vlrsStep, evlrsStep, atEvlrs, betweenStep, stepOf, recordsFrom, evlrsFrom, endFrom, pointsFrom, vlrsFrom, leftOf, toldBy}
+
+pub between-short : (from to : ℕ) (s : List ℕ) → length (between from to s) ≤ to - from
+between-short from to s = rw length-take (min-le-left (to - from) (length (drop from s)))
+
+some-head : (extended : Bool) → 1 ≤ headSize extended
+some-head true = omega arith
+some-head false = omega arith
+
+-- a record that is all there ends at or before the place that its bytes end at
+pub ends-within : (extended : Bool) (s : List ℕ) (at to : ℕ) {n : ℕ} → extentOf extended (between at to s) ≡ extent.Bytes n → at + n ≤ to
+ends-within extended s at to p =
+    let w = accepted extended (between at to s) p in
+    omega (arith, some-head extended, between-short at to s)
+
+drop-take : (n m : ℕ) (l : List ℕ) → drop n (take m l) ≡ take (m - n) (drop n l)
+drop-take zero m l = rw sub-zero
+drop-take (suc n) zero l = rw zero-sub
+drop-take (suc n) (suc m) [] = rw take-nil
+drop-take (suc n) (suc m) (x ∷ l) = rw suc-sub-suc (drop-take n m l)
+
+-- what is left of some bytes after the first n
+pub drop-between : (n from to : ℕ) (s : List ℕ) → drop n (between from to s) ≡ between (from + n) to s
+drop-between n from to s =
+    let e : (to - from) - n ≡ to - (from + n) = omega arith in
+    rw (drop-take, drop-drop, e)
+
+module _ (s : List ℕ) where
+  -- a gap, or what follows it
+  past : (at to : ℕ) (next : Cursor) (otherwise : Step) (after : List Part) → leftOf s next ≡ after → toldBy (leftOf s) otherwise ≡ after → gap at to ++ after ≡ toldBy (leftOf s) (pastGap at to next otherwise)
+  unfolding gap pastGap
+  past at to next otherwise after e f = go (ltb at to)
+    where
+      go : (b : Bool) → cond b (part kind.Gap at (to - at) ∷ []) [] ++ after ≡ toldBy (leftOf s) (cond b (told kind.Gap at (to - at) next) otherwise)
+      go true = ap (λ (ps : List Part). part kind.Gap at (to - at) ∷ ps) (sym e)
+      go false = sym f
+
+  -- a record, where it is all there
+  whole : (x : Extent) (k : Kind) (at : ℕ) (c : Cursor) (after : ℕ → List Part) (next : ℕ → Cursor) → ((n : ℕ) → leftOf s (next n) ≡ after n)
+      → whenBytes x (λ n. part k at n ∷ after n) [] ≡ toldBy (leftOf s) (whenBytes x (λ n. told k at n (next n)) (ended c))
+  whole (extent.Bytes n) k at c after next e = ap (λ (ps : List Part). part k at n ∷ ps) (sym (e n))
+  whole (extent.Refused r) k at c after next e = refl
+
+  one-less : (k : ℕ) → suc k - 1 ≡ k
+  one-less k = omega arith
+
+  no-gap : (n : ℕ) → gap n n ≡ []
+  unfolding gap
+  no-gap n = rw (le-ltb n n (omega arith))
+
+  at-evlrs : (left at : ℕ) (p : Plan) → evlrsFrom s left at ≡ toldBy (leftOf s) (evlrsStep s (cursor stage.Evlrs at left p))
+  unfolding leftOf evlrsStep evlrsFrom recordsFrom recordStep
+  at-evlrs zero at p = past at (length s) (cursor stage.Evlrs (length s) 0 p) (ended (cursor stage.Evlrs at 0 p)) [] (rw no-gap) refl
+  at-evlrs (suc k) at p =
+      rw (lt-ltb 0 (suc k) (omega arith))
+      (whole (extentOf true (between at (length s) s)) kind.Evlr at (cursor stage.Evlrs at (suc k) p) (λ n. recordsFrom s kind.Evlr true k (at + n) (length s) [])
+      (λ n. cursor stage.Evlrs (at + n) (suc k - 1) p) (λ n. rw one-less))
+
+  at-points : (p : Plan) → pointsFrom s p ≡ toldBy (leftOf s) (pointsStep p)
+  unfolding leftOf pointsFrom
+  at-points p = refl
+
+  at-vlrs : (left at : ℕ) (p : Plan) → vlrsFrom s p left at ≡ toldBy (leftOf s) (vlrsStep s (cursor stage.Vlrs at left p))
+  unfolding leftOf vlrsStep vlrsFrom recordsFrom recordStep
+  at-vlrs zero at p = past at (p .points) (cursor stage.Points (p .points) 0 p) (pointsStep p) (pointsFrom s p) refl (sym (at-points p))
+  at-vlrs (suc k) at p =
+      rw (lt-ltb 0 (suc k) (omega arith))
+      (whole (extentOf false (between at (p .points) s)) kind.Vlr at (cursor stage.Vlrs at (suc k) p) (λ n. recordsFrom s kind.Vlr false k (at + n) (p .points) (pointsFrom s p))
+      (λ n. cursor stage.Vlrs (at + n) (suc k - 1) p) (λ n. rw one-less))
+
+  at-between : (left at : ℕ) (p : Plan) → endFrom s p at ≡ toldBy (leftOf s) (betweenStep s (cursor stage.Between at left p))
+  unfolding leftOf endFrom betweenStep
+  at-between left at p = past at (p .«start_of_evlrs») (atEvlrs p) (evlrsStep s (atEvlrs p)) (evlrsFrom s (p .«number_of_evlrs») (p .«start_of_evlrs»)) refl (sym (at-evlrs (p .«number_of_evlrs») (p .«start_of_evlrs») p))
+
+  by-stage : (k : Stage) (at left : ℕ) (p : Plan) → leftOf s (cursor k at left p) ≡ toldBy (leftOf s) (stepOf s (cursor k at left p))
+  unfolding leftOf stepOf
+  by-stage stage.Header at left p = refl
+  by-stage stage.Vlrs at left p = at-vlrs left at p
+  by-stage stage.Points at left p = at-points p
+  by-stage stage.Between at left p = at-between left at p
+  by-stage stage.Evlrs at left p = at-evlrs left at p
+
+  -- a step tells the first of the parts that are left, and has none where none is left
+  pub left-step : (c : Cursor) → leftOf s c ≡ toldBy (leftOf s) (stepOf s c)
+  left-step c = by-stage (c .stage) (c .at) (c .left) (c .plan)

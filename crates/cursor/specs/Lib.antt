@@ -1,0 +1,5 @@
+pub mod Parts
+pub mod Cursor
+pub mod Laws
+pub mod Accepted
+pub mod Theorems

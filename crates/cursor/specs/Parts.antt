@@ -1,0 +1,78 @@
+-- The parts of an accepted file, in file order: document 01, "The part table".
+use Prim.Native.Nat.{ℕ, zero, suc, _+_, _-_, _≤_}
+use mathlib.Core.Path.{_≡_}
+use mathlib.Core.Bool.{Bool, true, false, cond}
+use mathlib.Core.List.{List, [], _∷_, _++_}
+use lib.Dec.{eqb, ltb}
+use lib.ListN.{length, take, drop}
+use Rattle.vlr.specs.Vlr.{recordSize}
+use Rattle.header.specs.Judged.{readOf}
+use Rattle.outline.specs.declared.Outline.{Outline}
+use Rattle.outline.specs.Outline.{outlineOf}
+use Rattle.file.specs.Rules.{pointsEnd}
+use Rattle.cursor.specs.declared.Kind.{Kind}
+use Rattle.cursor.specs.declared.Kind.the-variants.{Header, Vlr, Gap, Points, Evlr}
+use Rattle.cursor.specs.declared.Part.{Part}
+
+-- an entry: "kind, start, length"
+abbrev pub part : Kind → ℕ → ℕ → Part
+part kind start n = record { kind = kind; start = start; length = n }
+
+-- "Bytes between parts, and after the last, are gaps", "empty gaps omitted"
+unfoldable pub gap : ℕ → ℕ → List Part
+gap from to = cond (ltb from to) (part Gap from (to - from) ∷ []) []
+
+-- the bytes of s from one place up to another
+abbrev pub between : ℕ → ℕ → List ℕ → List ℕ
+between from to s = take (to - from) (drop from s)
+
+-- k records one after the other from `at` on, and the gap after them, which ends at `to`
+unfoldable pub recordParts : Kind → Bool → ℕ → ℕ → ℕ → List ℕ → List Part
+recordParts kind extended zero at to s = gap at to
+recordParts kind extended (suc k) at to s =
+    let n = recordSize extended (between at to s) in
+    part kind at n ∷ recordParts kind extended k (at + n) to s
+
+-- what the header of the file s says of its parts
+abbrev pub outlineIn : List ℕ → Outline
+outlineIn s = outlineOf (readOf s .header)
+
+-- where the EVLRs start; without EVLRs, the end of the points
+unfoldable pub evlrsStart : Outline → ℕ
+evlrsStart o = cond (eqb (o .«number_of_evlrs») 0) (pointsEnd o) (o .«start_of_first_evlr»)
+
+-- "filled in file order, header with its padding first, empty gaps omitted, points always present"
+unfoldable pub partsOf : Outline → List ℕ → List Part
+partsOf o s =
+    let points = o .«offset_to_point_data» in
+    part Header 0 (o .«header_size») ∷
+    (recordParts Vlr false (o .«number_of_variable_length_records») (o .«header_size») points s
+    ++ (part Points points (pointsEnd o - points) ∷
+    (gap (pointsEnd o) (evlrsStart o)
+    ++ recordParts Evlr true (o .«number_of_evlrs») (evlrsStart o) (length s) s)))
+
+-- k records at the start of `rest`, one after the other, are all there
+abbrev pub Records : Bool → ℕ → List ℕ → Type 0
+Records extended zero rest = Unit {0}
+Records extended (suc k) rest = (recordSize extended rest ≤ length rest) × Records extended k (drop (recordSize extended rest) rest)
+
+-- What the rules of an accepted file say of its parts.
+pub record Laid (o : Outline) (s : List ℕ) : Type 0 where
+  pub after-header : o .«header_size» ≤ o .«offset_to_point_data»
+  pub vlrs : Records false (o .«number_of_variable_length_records») (between (o .«header_size») (o .«offset_to_point_data») s)
+  pub after-points : pointsEnd o ≤ evlrsStart o
+  pub within : evlrsStart o ≤ length s
+  pub evlrs : Records true (o .«number_of_evlrs») (between (evlrsStart o) (length s) s)
+
+-- The parts ps cover the bytes from one place up to another, none overlapping: each starts where the one before it ends.
+abbrev pub Covers : ℕ → ℕ → List Part → Type 0
+Covers from to [] = from ≡ to
+Covers from to (p ∷ ps) = (p .start ≡ from) × Covers (from + p .length) to ps
+
+-- the bytes of a part, and of several
+abbrev pub bytesOf : List ℕ → Part → List ℕ
+bytesOf s p = take (p .length) (drop (p .start) s)
+
+abbrev pub joined : List ℕ → List Part → List ℕ
+joined s [] = []
+joined s (p ∷ ps) = bytesOf s p ++ joined s ps
