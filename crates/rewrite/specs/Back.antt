@@ -21,8 +21,8 @@ use Rattle.header.specs.Judged as header
 use Rattle.header.specs.Judged.{judged, paddingOf}
 use Rattle.header_write.specs.Bytes.{block}
 use Rattle.outline.specs.declared.Outline.{Outline}
-use Rattle.rewrite.specs.declared.Kind.{Kind}
-use Rattle.rewrite.specs.declared.Kind.the-variants.{Header, Vlr, Gap, Points, Evlr}
+use Rattle.cursor.specs.declared.Kind.{Kind}
+use Rattle.cursor.specs.declared.Kind.the-variants.{Header, Vlr, Gap, Points, Evlr}
 
 -- the header that is read, and its padding
 unfoldable pub headerBack : List ℕ → List ℕ

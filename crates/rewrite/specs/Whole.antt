@@ -1,7 +1,7 @@
 -- Of bytes, what stands for all parts is the file, but for the header's EVLR pair.
 use Prim.Native.Nat.{ℕ, _+_, _-_, _≤_}
 use mathlib.Core.Path.{_≡_, refl, ap, sym, _∙_}
-use mathlib.Core.Bool.{true, false}
+use mathlib.Core.Bool.{Bool, true, false}
 use mathlib.Core.List.{List, [], _∷_, _++_}
 use native.Mathlib.Omega.{arith}
 use native.Mathlib.Nat.{zero-add}
@@ -10,13 +10,31 @@ use lib.Seq.{drop-drop, drop-length, length-take-le}
 use Rattle.le.specs.Le.{Bytes}
 use Rattle.header.specs.Window.{bytes-take}
 use Rattle.outline.specs.declared.Outline.{Outline}
-use Rattle.rewrite.specs.declared.Part.{Part}
-use Rattle.rewrite.specs.declared.Kind.{Kind}
-use Rattle.rewrite.specs.declared.Kind.the-variants.{Header, Vlr, Gap, Points, Evlr}
+use Rattle.cursor.specs.declared.Part.{Part}
+use Rattle.cursor.specs.declared.Kind.{Kind}
+use Rattle.cursor.specs.declared.Kind.the-variants.{Header, Vlr, Gap, Points, Evlr}
 use Rattle.rewrite.specs.Back.{partBack, PartIs}
 use Rattle.rewrite.specs.Laws.{bytes-drop, format-length, part-same, vlr-same}
 use Rattle.rewrite.specs.Pair.{written, header-written, length-written, written-append}
-use Rattle.rewrite.specs.Rewritten.{bytesOf, backOf, isHeader, At, Tiles, NoHeader, HeaderFirst}
+use Rattle.cursor.specs.Parts.{bytesOf}
+use Rattle.rewrite.specs.Rewritten.{backOf, At, Tiles}
+
+abbrev pub isHeader : Kind → Bool
+isHeader Header = true
+isHeader Vlr = false
+isHeader Gap = false
+isHeader Points = false
+isHeader Evlr = false
+
+-- no part is a header
+abbrev pub NoHeader : List Part → Type 0
+NoHeader [] = Unit
+NoHeader (p ∷ ps) = (isHeader (p .kind) ≡ false) × NoHeader ps
+
+-- the first alone is
+abbrev pub HeaderFirst : List Part → Type 0
+HeaderFirst [] = ⊥
+HeaderFirst (p ∷ ps) = (p .kind ≡ Header) × NoHeader ps
 
 module _ (o : Outline) where
   -- some parts and then others

@@ -3,7 +3,12 @@ ghost use mathlib.Core.Path.{_≡_};
 ghost use mathlib.Core.List.{_++_};
 ghost use Prim.Native.Nat.{_≤_, _<_};
 ghost use lib.ListN.{length, drop};
+ghost use Rattle.cursor.specs.Cursor.{leftOf};
+ghost use Rattle.rewrite.specs.Rewritten.{Tiles, backOf, rewrittenOf};
 ghost use Rattle.rewrite.specs.Back.{VlrPart, PointPart, PointsPart, HeaderPart, PartIs, HasFormat, pointFormat, headerBack, vlrBack, pointBack, pointsBack, partBack};
+use cursor::Cursor;
+use cursor::Kind;
+use cursor::Started;
 use format::Format;
 use format::FormatLen;
 use format::NewFormat;
@@ -11,20 +16,56 @@ use header::Header;
 use outline::Outline;
 use point::Point;
 use point::PointRead;
+use refusal::Refusal;
 use vlr::Vlr;
 
-pub enum Kind {
-    Header,
-    Vlr,
-    Gap,
-    Points,
-    Evlr,
+// The bytes written, which are those of the file, or a refusal with its record number.
+pub enum Rewrote {
+    Bytes(usize),
+    Refused { refusal: Refusal, record: u64 },
 }
 
-pub struct Part {
-    pub kind: Kind,
-    pub start: usize,
-    pub length: usize,
+// Rewrites a file to the front of the destination and leaves what lies past it: every part is written, in its place, from
+// what its reader answers, and gaps are copied. Refuses what the file check refuses, then with 22 and the file's length
+// where the destination is shorter; a refusal changes nothing.
+pub fn rewrite(file: &[u8], allowance: u64, dst: &mut [u8]) -> Rewrote
+    ensures { λ r. ⌜ (r, now (dst .exit)) ≡ rewrittenOf allowance (now (file .entry)) (now (dst .entry)) ⌝ }
+{
+    match cursor::start(file, allowance) {
+        Started::At(c) => {
+            let n = file.len();
+            if dst.len() < n {
+                return Rewrote::Refused {
+                    refusal: Refusal::NoRoom(n as u64),
+                    record: 0,
+                };
+            }
+            let header = Header::read_from(file).header;
+            rewrite_parts(file, Outline::of(header), c, dst);
+            Rewrote::Bytes(n)
+        }
+        Started::Refused { refusal, record } => Rewrote::Refused { refusal, record },
+    }
+}
+
+// The parts from the cursor on, each into the rest of the destination.
+fn rewrite_parts(file: &[u8], o: Outline, c: Cursor, dst: &mut [u8])
+    requires { ⌜ Tiles o (now file) 0 (leftOf (now file) c) (length (now file)) × (length (now file) ≤ length (now dst)) ⌝ }
+    ensures { λ _. ⌜ now (dst .exit) ≡ backOf o (now (file .entry)) (leftOf (now (file .entry)) c) ++ drop (length (now (file .entry))) (now (dst .entry)) ⌝ }
+{
+    let mut c = c;
+    loop {
+        let step = cursor::next(file, c);
+        if !step.has {
+            return;
+        }
+        let part = step.part;
+        let kind = part.kind;
+        let from = part.start as usize;
+        let to = from + part.length as usize;
+        rewrite_part(kind, &file[from..to], o, &mut dst[from..]);
+        c = step.next;
+    }
 }
 
 // A part of a kind, to the front of the destination; what lies past it stays.
