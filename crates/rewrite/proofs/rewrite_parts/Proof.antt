@@ -1,89 +1,93 @@
+-- The invariant is over the parts that are left: from a place on they cover the file, and laid there they make of the
+-- destination what is promised.
+use Prim.Native.Nat.{ℕ, _+_, _≤_}
+use mathlib.Core.Path.{_≡_, refl, ap, sym, _∙_}
+use mathlib.Core.List.{_∷_}
+use native.Mathlib.Omega.{arith}
+use borrow.Author.Needs.{needs}
+use lib.ListN.{length, length-take, length-drop}
+use lib.Seq.{sets}
+use Rattle.le.specs.Le.{Bytes}
+use Rattle.lent.specs.Laws.{whole}
+use Rattle.cursor.specs.Cursor.{leftOf}
+use Rattle.rewrite.specs.Rewritten.{backOf, At, Tiles}
+use Rattle.rewrite.specs.Whole.{length-tiles}
+use Rattle.rewrite.proofs.Turn.{cut-length, cut-whole, part-turn, first-left, none-left}
 use Rattle.rewrite.proofs.rewrite_parts.Statement.{statement}
 use Rattle.rewrite.proofs.rewrite_parts.Tie as tie
-use Rattle.rewrite.proofs.rewrite_parts.Reads as reads
-use Rattle.rewrite.proofs.rewrite_parts.Lts as lts
-use Rattle.cursor.proofs.next.Reads as next-reads
-use Rattle.rewrite.proofs.rewrite_part.Reads as rewrite-part-reads
 
 abbrev Inv-loop : tie.InvT-loop
-Inv-loop file o dst₀ c₀ dst c = ?
+Inv-loop file o dst₀ c₀ dst c =
+    (at : ℕ) × Tiles o file at (leftOf file c) (length file) × (length dst ≡ length dst₀) × (sets dst at (backOf o file (leftOf file c)) ≡ sets dst₀ 0 (backOf o file (leftOf file c₀)))
 
 abbrev μ-loop : tie.MeasureT-loop
-μ-loop file o dst₀ c₀ dst c = ?
+μ-loop file o dst₀ c₀ dst c = length (leftOf file c)
 
--- src/lib.rt:60:5
 loop-holds : tie.Need-loop-holds Inv-loop μ-loop
-loop-holds c = ?
+loop-holds c = (0, c .before .before .pre .0, refl, refl)
 
--- src/lib.rt:61:13
-next-requires : tie.Need-next-requires Inv-loop μ-loop
-next-requires c κs = ?
-
--- src/lib.rt:63:13
-same-length : tie.Need-same-length Inv-loop μ-loop
-same-length c = ?
-
--- src/lib.rt:63:13
 returns : tie.Need-returns Inv-loop μ-loop
-returns c = ?
+unfolding backOf
+returns c =
+    let step = c .before .before in
+    let l = step .before in
+    let s = l .before .before .before in
+    let a = s .args in
+    let none = none-left (a .file .now) (l .loop .c) (step .next .result) (step .next .ensures) (c .if1 .taken) in
+    let all = length-tiles (a .o) (a .file .now) (λ k. omega (arith, l .before .before .shared-slice-known .given k)) 0 (length (a .file .now)) (leftOf (a .file .now) (a .c)) (s .pre .0) in
+    rw none at (l .loop .inv .3)
+    ∙ whole (a .dst .now) (backOf (a .o) (a .file .now) (leftOf (a .file .now) (a .c))) (length (a .file .now)) (omega (arith, all)) (s .pre .1)
 
--- src/lib.rt:68:18
-add-to : tie.Need-add-to Inv-loop μ-loop
-add-to c = ?
+-- the part of a turn, and those after it
+module _ (x : tie.Else1 Inv-loop μ-loop) where
+  abbrev step : tie.After-next Inv-loop μ-loop
+  step = x .before .before
 
--- src/lib.rt:69:28
-sub-rewrite-part : tie.Need-sub-rewrite-part Inv-loop μ-loop
-sub-rewrite-part c = ?
+  abbrev at-loop : tie.At-loop Inv-loop μ-loop
+  at-loop = x .before .before .before
 
--- src/lib.rt:69:28
-part-rewrite-part-start : tie.Need-part-rewrite-part-start Inv-loop μ-loop
-part-rewrite-part-start c = ?
+  abbrev begun : tie.Start Inv-loop μ-loop
+  begun = x .before .before .before .before .before .before
 
--- src/lib.rt:69:28
-part-rewrite-part-end : tie.Need-part-rewrite-part-end Inv-loop μ-loop
-part-rewrite-part-end c = ?
+  more : leftOf (begun .args .file .now) (at-loop .loop .c) ≡ step .next .result .part ∷ leftOf (begun .args .file .now) (step .next .result .next)
+  more = first-left (begun .args .file .now) (at-loop .loop .c) (step .next .result) (step .next .ensures) (x .if1 .left)
 
--- src/lib.rt:69:48
-sub-rewrite-part-2 : tie.Need-sub-rewrite-part-2 Inv-loop μ-loop
-sub-rewrite-part-2 c = ?
+  tiled : At (begun .args .o) (begun .args .file .now) (at-loop .loop .inv .0) (step .next .result .part) × Tiles (begun .args .o) (begun .args .file .now) (at-loop .loop .inv .0 + step .next .result .part .length) (leftOf (begun .args .file .now) (step .next .result .next)) (length (begun .args .file .now))
+  tiled = rw more at (at-loop .loop .inv .1)
 
--- src/lib.rt:69:48
-part-rewrite-part-start-2 : tie.Need-part-rewrite-part-start-2 Inv-loop μ-loop
-part-rewrite-part-start-2 c = ?
+  inside : step .next .result .part .start + step .next .result .part .length ≤ length (begun .args .file .now)
+  inside = let a = tiled .0 in omega (arith, a .start, a .ends)
 
--- src/lib.rt:69:48
-part-rewrite-part-end-2 : tie.Need-part-rewrite-part-end-2 Inv-loop μ-loop
-part-rewrite-part-end-2 c = ?
+is-bytes : (x : tie.Else1 Inv-loop μ-loop) → Bytes (begun x .args .file .now)
+is-bytes x k = omega (arith, at-loop x .before .before .shared-slice-known .given k)
 
--- src/lib.rt:69:9
 rewrite-part-requires : tie.Need-rewrite-part-requires Inv-loop μ-loop
-rewrite-part-requires c κs = ?
+rewrite-part-requires c κs =
+    let x = c .before .before .before in
+    let p = step x .next .result .part in
+    let s = begun x .args .file .now in
+    let a = tiled x .0 in
+    let room = begun x .pre .1 in
+    let long = cut-length (begun x .args .o) s (is-bytes x) (at-loop x .loop .inv .0) p a in
+    (cut-whole (begun x .args .o) s (is-bytes x) (at-loop x .loop .inv .0) p a, rw long (simp (length-take, length-drop) (omega (arith, inside x, at-loop x .loop .inv .2))))
 
--- src/lib.rt:60:5
 loop-less : tie.Need-loop-less Inv-loop μ-loop
-loop-less c = ?
+loop-less c = let x = c .before .before .before .before .before .before .before in omega (arith, ap length (more x))
 
--- src/lib.rt:60:5
 loop-again : tie.Need-loop-again Inv-loop μ-loop
-loop-again c = ?
+loop-again c =
+    let written = c .before .before .before in
+    let x = written .before .before .before .before in
+    let l = at-loop x .loop in
+    let s = begun x .args .file .now in
+    let t = part-turn (begun x .args .o) s (is-bytes x) (l .inv .0) (step x .next .result .part) (tiled x .0) (leftOf s (step x .next .result .next)) (l .dst) (written .rewrite-part .last .1 .1 .1 .0) (omega (arith, begun x .pre .1, l .inv .2)) (written .rewrite-part .ensures) (rw (more x) at (l .inv .3)) in
+    (l .inv .0 + step x .next .result .part .length, tiled x .1, t .0 ∙ l .inv .2, t .1)
 
 pub rewrite-parts-spec : {M : Type 1} → statement M
 rewrite-parts-spec =
     tie.close
     (tie.spec
-    Inv-loop
-    μ-loop
-    loop-holds
-    next-requires
-    same-length
-    returns
-    add-to
-    sub-rewrite-part
-    part-rewrite-part-start
-    part-rewrite-part-end
-    sub-rewrite-part-2
-    part-rewrite-part-start-2
-    part-rewrite-part-end-2
-    rewrite-part-requires
-    loop-less
-    loop-again)
+    Inv-loop μ-loop loop-holds (λ c κs. search needs) (λ c. search needs) returns (λ c. omega (arith, inside (c .before)))
+    (λ c. omega (arith, inside (c .before))) (λ c. omega (arith, inside (c .before))) (λ c. omega (arith, inside (c .before)))
+    (λ c. omega (arith, inside (c .before .before))) (λ c. omega (arith, inside (c .before .before))) (λ c. omega (arith, inside (c .before .before)))
+    rewrite-part-requires loop-less loop-again)
