@@ -1,6 +1,6 @@
 -- Laws of the cursor: a step tells the first of the parts that are left, and a record that is told ends where it must.
-use Prim.Native.Nat.{ℕ, zero, suc, _+_, _-_, _≤_}
-use mathlib.Core.Path.{_≡_, refl, ap, sym}
+use Prim.Native.Nat.{ℕ, zero, suc, _+_, _-_, _≤_, _<_}
+use mathlib.Core.Path.{_≡_, refl, ap, sym, _∙_}
 use mathlib.Core.Bool.{Bool, true, false, cond}
 use mathlib.Core.List.{List, [], _∷_, _++_}
 use native.Mathlib.Nat.{min-le-left, sub-zero, zero-sub, suc-sub-suc}
@@ -108,3 +108,19 @@ module _ (s : List ℕ) where
   -- a step tells the first of the parts that are left, and has none where none is left
   pub left-step : (c : Cursor) → leftOf s c ≡ toldBy (leftOf s) (stepOf s c)
   left-step c = by-stage (c .stage) (c .at) (c .left) (c .plan)
+
+module _ (s : List ℕ) (c : Cursor) where
+  -- a step that has a part tells the first of those left
+  pub has-part : stepOf s c .has ≡ true → leftOf s c ≡ stepOf s c .part ∷ leftOf s (stepOf s c .next)
+  has-part e = left-step s c ∙ ap (λ (b : Bool). cond b (stepOf s c .part ∷ leftOf s (stepOf s c .next)) []) e
+
+  pub has-none : stepOf s c .has ≡ false → leftOf s c ≡ []
+  has-none e = left-step s c ∙ ap (λ (b : Bool). cond b (stepOf s c .part ∷ leftOf s (stepOf s c .next)) []) e
+
+  -- so does a step where some are left
+  pub some-left : 0 < length (leftOf s c) → leftOf s c ≡ stepOf s c .part ∷ leftOf s (stepOf s c .next)
+  some-left more = go (stepOf s c .has) refl
+    where
+      go : (b : Bool) → stepOf s c .has ≡ b → leftOf s c ≡ stepOf s c .part ∷ leftOf s (stepOf s c .next)
+      go true e = has-part e
+      go false e = let none : length (leftOf s c) ≡ 0 = ap length (has-none e) in absurd (omega arith)

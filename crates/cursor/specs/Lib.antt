@@ -1,5 +1,7 @@
 pub mod Parts
 pub mod Cursor
 pub mod Laws
+pub mod Count
+pub mod Stays
 pub mod Accepted
 pub mod Theorems

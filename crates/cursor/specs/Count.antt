@@ -1,0 +1,69 @@
+-- How many parts a cursor may have to tell.
+use Prim.Native.Nat.{ℕ, zero, suc, _+_, _-_, _≤_}
+use mathlib.Core.Bool.{Bool, true, false, cond}
+use mathlib.Core.List.{List, [], _∷_, _++_}
+use native.Mathlib.Omega.{arith}
+use lib.Dec.{ltb}
+use lib.ListN.{length, length-append}
+use Rattle.vlr.specs.declared.Extent.{Extent}
+use Rattle.vlr.specs.declared.Extent.the-variants as extent
+use Rattle.vlr.specs.Vlr.{extentOf}
+use Rattle.cursor.specs.declared.Kind.{Kind}
+use Rattle.cursor.specs.declared.Kind.the-variants as kind
+use Rattle.cursor.specs.declared.Part.{Part}
+use Rattle.cursor.specs.declared.Plan.{Plan}
+use Rattle.cursor.specs.declared.Stage.{Stage}
+use Rattle.cursor.specs.declared.Stage.the-variants as stage
+use Rattle.cursor.specs.declared.Cursor.{Cursor}
+use Rattle.cursor.specs.Parts.{part, gap, between}
+use Rattle.cursor.specs.Cursor.{cursor, whenBytes, recordsFrom, evlrsFrom, endFrom, pointsFrom, vlrsFrom, leftOf}
+
+gap-few : (from to : ℕ) → length (gap from to) ≤ 1
+unfolding gap
+gap-few from to = go (ltb from to)
+  where
+    go : (b : Bool) → length (cond b (part kind.Gap from (to - from) ∷ []) []) ≤ 1
+    go true = omega arith
+    go false = omega arith
+
+told-few : (x : Extent) (f : ℕ → List Part) (most : ℕ) → ((m : ℕ) → length (f m) ≤ most) → length (whenBytes x f []) ≤ most
+told-few (extent.Bytes m) f most h = h m
+told-few (extent.Refused r) f most h = omega arith
+
+module _ (s : List ℕ) where
+  records-few : (k : Kind) (extended : Bool) (n at to : ℕ) (after : List Part) → length (recordsFrom s k extended n at to after) ≤ n + 1 + length after
+  unfolding recordsFrom
+  records-few k extended zero at to after = omega (arith, length-append (gap at to) after, gap-few at to)
+  records-few k extended (suc n) at to after =
+      told-few (extentOf extended (between at to s)) (λ m. part k at m ∷ recordsFrom s k extended n (at + m) to after) (suc n + 1 + length after)
+      (λ m. omega (arith, records-few k extended n (at + m) to after))
+
+  evlrs-few : (left at : ℕ) → length (evlrsFrom s left at) ≤ left + 1
+  unfolding evlrsFrom
+  evlrs-few left at = omega (arith, records-few kind.Evlr true left at (length s) [])
+
+  end-few : (p : Plan) (at : ℕ) → length (endFrom s p at) ≤ p .«number_of_evlrs» + 2
+  unfolding endFrom
+  end-few p at =
+      let n = p .«number_of_evlrs» in
+      let start = p .«start_of_evlrs» in
+      omega (arith, length-append (gap at start) (evlrsFrom s n start), gap-few at start, evlrs-few n start)
+
+  points-few : (p : Plan) → length (pointsFrom s p) ≤ p .«number_of_evlrs» + 3
+  unfolding pointsFrom
+  points-few p = omega (arith, end-few p (p .«end»))
+
+  vlrs-few : (p : Plan) (left at : ℕ) → length (vlrsFrom s p left at) ≤ left + p .«number_of_evlrs» + 4
+  unfolding vlrsFrom
+  vlrs-few p left at = omega (arith, records-few kind.Vlr false left at (p .points) (pointsFrom s p), points-few p)
+
+  few-at : (k : Stage) (at left : ℕ) (p : Plan) → length (leftOf s (cursor k at left p)) ≤ left + p .«number_of_vlrs» + p .«number_of_evlrs» + 5
+  unfolding leftOf
+  few-at stage.Header at left p = omega (arith, vlrs-few p (p .«number_of_vlrs») (p .«header_size»))
+  few-at stage.Vlrs at left p = omega (arith, vlrs-few p left at)
+  few-at stage.Points at left p = omega (arith, points-few p)
+  few-at stage.Between at left p = omega (arith, end-few p at)
+  few-at stage.Evlrs at left p = omega (arith, evlrs-few left at)
+
+  pub few-left : (c : Cursor) → length (leftOf s c) ≤ c .left + c .plan .«number_of_vlrs» + c .plan .«number_of_evlrs» + 5
+  few-left c = few-at (c .stage) (c .at) (c .left) (c .plan)
