@@ -3,3 +3,4 @@ pub mod Laws
 pub mod Pair
 pub mod Rewritten
 pub mod Whole
+pub mod Sound

@@ -1,64 +1,64 @@
+use mathlib.Core.Path.{_≡_, ap, sym, _∙_}
+use mathlib.Core.List.{List}
+use Prim.Native.Nat.{ℕ}
 use borrow.Author.Needs.{needs}
+use native.Mathlib.Omega.{arith}
+use lib.ListN.{length}
+use Rattle.header.specs.declared.HeaderRead.{HeaderRead}
+use Rattle.outline.specs.Outline.{outlineOf}
+use Rattle.cursor.specs.declared.Started.the-variants as started
+use Rattle.cursor.specs.Parts.{outlineIn}
+use Rattle.cursor.specs.Cursor.{startedOf}
+use Rattle.rewrite.specs.declared.Rewrote.the-variants.{Bytes}
+use Rattle.rewrite.proofs.Answer.{left-tiles, no-room, all-written, not-begun}
 use Rattle.rewrite.proofs.rewrite.Statement.{statement}
 use Rattle.rewrite.proofs.rewrite.Tie as tie
-use Rattle.rewrite.proofs.rewrite.Reads as reads
-use Rattle.rewrite.proofs.rewrite.Lts as lts
-use Rattle.cursor.proofs.start.Reads as start-reads
-use Rattle.header.proofs.Header.read_from.Reads as read-from-reads
-use Rattle.outline.proofs.Outline.of.Reads as of-reads
-use Rattle.rewrite.proofs.rewrite_parts.Reads as rewrite-parts-reads
 
--- src/lib.rt:34:11
-start-requires : tie.Need-start-requires
-start-requires c κs = search needs
+-- a cursor was answered
+module _ (x : tie.After-c) where
+  abbrev begun : tie.Start
+  begun = x .before .before .before .before .before
 
--- src/lib.rt:35:21
-enum-known-c : tie.Need-enum-known-c
-enum-known-c c = search needs
+  told : startedOf (begun .args .allowance) (begun .args .file .now) ≡ started.At (x .c .given .0 .0)
+  told = sym (x .before .before .start .ensures) ∙ x .c .given .1
 
--- src/lib.rt:38:17
+-- and the outline is the file's
+is-outline : (x : tie.After-of) → x .of .result ≡ outlineIn (x .before .before .before .before .before .before .before .before .before .before .args .file .now)
+is-outline x = x .of .ensures ∙ ap (λ (r : HeaderRead). outlineOf (r .header)) (x .before .before .read-from .ensures)
+
 returns : tie.Need-returns
-returns c = ?
+returns c =
+    let x = c .before .before in
+    let a = begun x .args in
+    no-room (a .allowance) (a .file .now) (a .dst .now) (told x) (c .if1 .taken)
 
--- src/lib.rt:43:26
-read-from-requires : tie.Need-read-from-requires
-read-from-requires c κs = search needs
-
--- src/lib.rt:44:33
-of-requires : tie.Need-of-requires
-of-requires c κs = search needs
-
--- src/lib.rt:44:13
 rewrite-parts-requires : tie.Need-rewrite-parts-requires
-rewrite-parts-requires c κs = ?
+rewrite-parts-requires c κs =
+    let made = c .before in
+    let test = made .before .before .before in
+    let x = test .before .before in
+    let s = begun x in
+    let known = x .before .before .before .before in
+    (rw (is-outline made) (left-tiles (s .args .allowance) (s .args .file .now) (λ k. omega (arith, known .shared-slice-known .given k)) (told x)), test .if1 .left)
 
--- src/lib.rt:47:28
-enum-known-refusal : tie.Need-enum-known-refusal
-enum-known-refusal c = search needs
-
--- src/lib.rt:31:1
-same-length : tie.Need-same-length
-same-length c = search needs
-
--- src/lib.rt:31:1
 returns-2 : tie.Need-returns-2
-returns-2 c = ?
+returns-2 c =
+    let done = c .before .before in
+    let made = done .before .before in
+    let test = made .before .before .before in
+    let x = test .before .before in
+    let a = begun x .args in
+    ap (λ (l : List ℕ). (Bytes (length (a .file .now)), l)) (rw (is-outline made) at (done .rewrite-parts .ensures))
+    ∙ all-written (a .allowance) (a .file .now) (a .dst .now) (told x) (test .if1 .left)
 
--- src/lib.rt:31:1
 returns-3 : tie.Need-returns-3
-returns-3 c = ?
+returns-3 c =
+    let asked = c .before .before .before in
+    let a = asked .before .before .before .args in
+    not-begun (a .allowance) (a .file .now) (a .dst .now) (sym (asked .start .ensures) ∙ c .before .refusal .given .1)
 
 pub rewrite-spec : {M : Type 1} → statement M
 rewrite-spec =
     tie.close
     (tie.spec
-    start-requires
-    enum-known-c
-    returns
-    read-from-requires
-    of-requires
-    rewrite-parts-requires
-    enum-known-refusal
-    same-length
-    returns-2
-    returns-3)
+    (λ c κs. search needs) (λ c. search needs) returns (λ c κs. search needs) (λ c κs. search needs) rewrite-parts-requires (λ c. search needs) (λ c. search needs) returns-2 returns-3)
