@@ -4,3 +4,4 @@ pub mod Pair
 pub mod Rewritten
 pub mod Whole
 pub mod Sound
+pub mod Theorems

@@ -5,7 +5,7 @@ use mathlib.Core.Bool.{Bool, true, false, cond, _&&_, _||_}
 use mathlib.Core.Logic.{_⊎_, inl, inr}
 use mathlib.Core.List.{List, _++_, append-assoc}
 use native.Mathlib.Omega.{arith}
-use borrow.Author.Tests.{eqb-true, eqb-false}
+use borrow.Author.Tests.{eqb-true, eqb-false, eq-eqb}
 use lib.Dec.{eqb}
 use lib.ListN.{length, take, drop, replicate, length-append, length-take, length-drop}
 use lib.Seq.{take-append-le, drop-append-le, take-append-seam}
@@ -14,6 +14,7 @@ use Rattle.header.specs.Layout.{VersionMinor, StartOfFirstEvlr, NumberOfEvlrs, 
 use Rattle.header.specs.Header.{number}
 use Rattle.header.specs.Window.{num-take}
 use Rattle.header.specs.Laws as header
+use Rattle.header_write.specs.Back.{Paired}
 use Rattle.rewrite.specs.Back.{headerBack, HeaderPart}
 use Rattle.rewrite.specs.Laws.{header-same, header-half}
 
@@ -92,3 +93,22 @@ module _ (s : List ℕ) (whole : HeaderPart s) where
           let second : 247 ≤ length s = omega arith in
           rw (append-assoc (take 235 s) (replicate 12 0 ++ drop 247 s) t, append-assoc (replicate 12 0) (drop 247 s) t, take-append-le 235 s t, drop-append-le 247 s t)
       go false p = refl
+
+-- a pair of which both or neither are zero stays
+module _ (s : List ℕ) (whole : HeaderPart s) (bytes : Bytes s) (t : List ℕ) where
+  pub paired-same : (number VersionMinor (s ++ t) ≡ 4 → Paired (number StartOfFirstEvlr (s ++ t)) (number NumberOfEvlrs (s ++ t))) → written (s ++ t) ≡ s ++ t
+  paired-same paired =
+      let minor = number-append 1 25 s t (omega (arith, header.within s (whole .1))) in
+      let kept : number VersionMinor s ≡ 4 → Paired (number StartOfFirstEvlr s) (number NumberOfEvlrs s) =
+      λ four. let long = large s whole four in rw (number-append 8 235 s t (omega arith), number-append 4 243 s t (omega arith)) at (paired (minor ∙ four)) in
+      sym (written-append s whole t) ∙ ap (λ (l : List ℕ). l ++ t) (sym (header-written s whole bytes) ∙ header-same s whole bytes kept)
+
+-- and one of which either is zero becomes two zeros
+pub zero-cleared : (s : List ℕ) → number VersionMinor s ≡ 4 → (number StartOfFirstEvlr s ≡ 0) ⊎ (number NumberOfEvlrs s ≡ 0) → written s ≡ take 235 s ++ (replicate 12 0 ++ drop 247 s)
+unfolding written pairZero pairCleared
+zero-cleared s four (inl start) = rw (eq-eqb _ _ four, eq-eqb _ _ start)
+zero-cleared s four (inr count) = rw (eq-eqb _ _ four, eq-eqb _ _ count) (go (eqb (number StartOfFirstEvlr s) 0))
+  where
+    go : (b : Bool) → cond (b || true) (take 235 s ++ (replicate 12 0 ++ drop 247 s)) s ≡ take 235 s ++ (replicate 12 0 ++ drop 247 s)
+    go true = refl
+    go false = refl

@@ -89,7 +89,7 @@ module _ (allowance : ℕ) (s : List ℕ) (h : Holds allowance s) where
       go true e = refl
       go false e = omega (arith, ltb-false (h .block) (number HeaderSize s) e, h .parts .header-size, field-is)
 
-  header-whole : HeaderPart (take (outlineIn s .«header_size») s)
+  pub header-whole : HeaderPart (take (outlineIn s .«header_size») s)
   header-whole =
       let w = within s (h .header) in
       let same = agreed s (take (h .end) s) (h .header) (sym (take-take (h .end) (h .end) s (omega arith))) in
