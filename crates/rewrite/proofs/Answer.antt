@@ -1,6 +1,6 @@
 -- What the answer of a started cursor says of the file, and what rewriting then promises.
 use Prim.Native.Nat.{ℕ, _≤_, _<_}
-use mathlib.Core.Path.{_≡_, refl, ap, sym, _∙_}
+use mathlib.Core.Path.{_≡_, refl, ap, _∙_}
 use mathlib.Core.List.{List, _++_}
 use native.Mathlib.Omega.{arith}
 use borrow.Author.Tests.{le-leb, lt-leb}
@@ -18,7 +18,8 @@ use Rattle.cursor.specs.Cursor.{planOf, firstOf, startedBy, startedOf, leftOf}
 use Rattle.cursor.specs.Accepted.{laid}
 use Rattle.cursor.specs.Theorems.{first-tells}
 use Rattle.rewrite.specs.declared.Rewrote.the-variants.{Bytes, Refused}
-use Rattle.rewrite.specs.Rewritten.{backOf, rewrittenBy, rewrittenOf, Tiles}
+use Rattle.rewrite.specs.Rewritten.{backOf, rewrittenBy, rewrittenOf}
+use Rattle.rewrite.specs.Asked.{Tiles}
 use Rattle.rewrite.specs.Sound.{file-tiles}
 
 module _ (allowance : ℕ) (s : List ℕ) where

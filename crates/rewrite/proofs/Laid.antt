@@ -24,7 +24,8 @@ use Rattle.vlr.specs.Theorems as vlr-theorems
 use Rattle.header.specs.Judged as header
 use Rattle.header_write.specs.Wrote.{wroteOf}
 use Rattle.header_write.specs.Theorems as header-theorems
-use Rattle.rewrite.specs.Back.{headerBack, vlrBack, pointBy, pointBack, HeaderPart, VlrPart, PointPart}
+use Rattle.rewrite.specs.Back.{headerBack, vlrBack, pointBy, pointBack}
+use Rattle.rewrite.specs.Asked.{HeaderPart, VlrPart, PointPart}
 use Rattle.rewrite.specs.Laws.{vlr-same}
 
 module _ (s d : List ℕ) {ys : List ℕ} {r : Wrote} (room : length s ≤ length d) where

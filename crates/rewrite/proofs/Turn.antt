@@ -6,7 +6,7 @@ use mathlib.Core.List.{List, [], _∷_, _++_}
 use native.Mathlib.Nat.{suc-mul}
 use native.Mathlib.Omega.{arith}
 use lib.ListN.{length, take, drop, length-drop, length-take}
-use lib.Seq.{sets, drop-drop, length-take-le, take-all}
+use lib.Seq.{sets, drop-drop, length-take-le}
 use Rattle.le.specs.Le.{Bytes}
 use Rattle.lent.specs.declared.Wrote.the-variants as wrote
 use Rattle.lent.specs.Front.{frontOf}
@@ -22,8 +22,9 @@ use Rattle.cursor.specs.declared.Step.{Step}
 use Rattle.cursor.specs.Parts.{bytesOf}
 use Rattle.cursor.specs.Cursor.{stepOf, leftOf, toldBy}
 use Rattle.cursor.specs.Laws.{left-step}
-use Rattle.rewrite.specs.Back.{pointBack, pointsBack, partBack, PointPart, PartIs}
-use Rattle.rewrite.specs.Rewritten.{backOf, At}
+use Rattle.rewrite.specs.Back.{pointBack, pointsBack, partBack}
+use Rattle.rewrite.specs.Rewritten.{backOf}
+use Rattle.rewrite.specs.Asked.{PointPart, PartIs, At}
 use Rattle.rewrite.specs.Whole.{length-part, length-back}
 use Rattle.rewrite.specs.Laws.{bytes-drop, point-same}
 

@@ -1,26 +1,22 @@
 -- What stands for each part in the rewritten file: "header, VLRs, EVLRs and points are each written from what their reader
 -- answers" (document 01). Each definition is the writer's own, of the reader's own.
-use Prim.Native.Nat.{ℕ, zero, suc, _*_, _-_, _≤_, _<_}
-use mathlib.Core.Path.{_≡_}
+use Prim.Native.Nat.{ℕ, zero, suc, _-_}
 use mathlib.Core.Bool.{Bool, true, false}
 use mathlib.Core.List.{List, [], _++_}
-use lib.ListN.{length, take, drop}
+use lib.ListN.{take, drop}
 use Rattle.format.specs.declared.Format.{Format}
-use Rattle.format.specs.declared.FormatLen.the-variants as len
 use Rattle.format.specs.Codes.{coded}
-use Rattle.format.specs.Fields.{recordBytes, lenOf}
 use Rattle.point.specs.declared.PointRead.{PointRead}
 use Rattle.point.specs.declared.PointRead.the-variants.{Is, Refused}
 use Rattle.point.specs.Read as point
 use Rattle.point_write.specs.Write.{recordOf}
-use Rattle.vlr.specs.declared.Extent.the-variants.{Bytes}
 use Rattle.vlr.specs.Vlr as vlr
 use Rattle.vlr.specs.Vlr.{headBytes, dataOf}
-use Rattle.header.specs.declared.HeaderAnswer.the-variants.{Whole}
 use Rattle.header.specs.Judged as header
-use Rattle.header.specs.Judged.{judged, paddingOf}
+use Rattle.header.specs.Judged.{paddingOf}
 use Rattle.header_write.specs.Bytes.{block}
 use Rattle.outline.specs.declared.Outline.{Outline}
+use Rattle.file.specs.Rules.{formatBytes}
 use Rattle.cursor.specs.declared.Kind.{Kind}
 use Rattle.cursor.specs.declared.Kind.the-variants.{Header, Vlr, Gap, Points, Evlr}
 
@@ -50,7 +46,7 @@ pointFormat o =
       «is_extended» = f .«is_extended»;
       «has_waveform» = f .«has_waveform»;
       «has_nir» = f .«has_nir»;
-      «extra_bytes» = o .«point_data_record_length» - recordBytes f;
+      «extra_bytes» = o .«point_data_record_length» - formatBytes (o .«point_data_record_format»);
       «is_compressed» = f .«is_compressed»;
     }
 
@@ -66,29 +62,3 @@ partBack o Vlr s = vlrBack false s
 partBack o Gap s = s
 partBack o Points s = pointsBack (pointFormat o) (o .«point_data_record_length») (o .«number_of_point_records») s
 partBack o Evlr s = vlrBack true s
-
--- the bytes of a whole part of each kind
-abbrev pub HeaderPart : List ℕ → Type 0
-HeaderPart s = (n : ℕ) × (judged s ≡ Whole n (length s))
-
-abbrev pub VlrPart : Bool → List ℕ → Type 0
-VlrPart extended s = vlr.readOf extended s .answer ≡ Bytes (length s)
-
-abbrev pub PointPart : Format → List ℕ → Type 0
-PointPart f s = lenOf f ≡ len.Is (length s)
-
--- rules 3 and 4: there is a format, and a record is no shorter than the format's
-pub record HasFormat (o : Outline) : Type 0 where
-  pub known : o .«point_data_record_format» < 11
-  pub long : recordBytes (coded (o .«point_data_record_format») false) ≤ o .«point_data_record_length»
-  pub fits : o .«point_data_record_length» ≤ 65535
-
-abbrev pub PointsPart : Format → ℕ → ℕ → List ℕ → Type 0
-PointsPart f m k s = (lenOf f ≡ len.Is m) × (length s ≡ k * m)
-
-unfoldable pub PartIs : Outline → Kind → List ℕ → Type 0
-PartIs o Header s = HeaderPart s
-PartIs o Vlr s = VlrPart false s
-PartIs o Gap s = Unit
-PartIs o Points s = HasFormat o × (length s ≡ o .«number_of_point_records» * o .«point_data_record_length»)
-PartIs o Evlr s = VlrPart true s

@@ -1,20 +1,19 @@
 -- Of bytes, what stands for a part is the part itself, but for the header's EVLR pair.
 use Prim.Native.Nat.{ℕ, zero, suc, _+_, _*_, _≤_}
-use mathlib.Core.Path.{_≡_, refl, ap, sym, _∙_}
+use mathlib.Core.Path.{_≡_, ap, sym, _∙_}
 use mathlib.Core.Bool.{Bool, true, false}
 use mathlib.Core.Logic.{_⊎_}
 use mathlib.Core.List.{List, _++_}
 use native.Mathlib.Nat.{suc-mul, zero-mul}
 use native.Mathlib.Omega.{arith}
-use borrow.Author.Tests.{le-ltb, lt-ltb}
+use borrow.Author.Tests.{le-ltb}
 use lib.ListN.{length, take, drop, replicate, length-drop}
 use lib.Seq.{take-add, take-all, take-length, length-take-le, getD-drop}
 use Rattle.le.specs.Le.{Bytes}
 use Rattle.format.specs.declared.Format.{Format}
 use Rattle.format.specs.declared.FormatLen.the-variants as len
 use Rattle.format.specs.Fields.{lenOf, recordBytes}
-use Rattle.format.specs.declared.NewFormat.the-variants as new
-use Rattle.format.specs.Codes.{coded, formatOf}
+use Rattle.format.specs.Codes.{coded}
 use Rattle.format.specs.Laws.{record-sum, len-is}
 use Rattle.point.specs.declared.PointRead.the-variants.{Is}
 use Rattle.point.specs.Read.{pointOf, sizedOf, readAfter, readOf, extraOf}
@@ -34,7 +33,9 @@ use Rattle.header.specs.Window.{num-take, bytes-take}
 use Rattle.header_write.specs.Back.{Paired}
 use Rattle.header_write.specs.Theorems as header
 use Rattle.outline.specs.declared.Outline.{Outline}
-use Rattle.rewrite.specs.Back.{headerBack, vlrBack, pointFormat, pointBy, pointBack, pointsBack, HeaderPart, VlrPart, PointPart, HasFormat, PointsPart}
+use Rattle.file.specs.Rules.{formatBytes}
+use Rattle.rewrite.specs.Back.{headerBack, vlrBack, pointFormat, pointBy, pointBack, pointsBack}
+use Rattle.rewrite.specs.Asked.{HeaderPart, VlrPart, PointPart, HasFormat, PointsPart}
 
 -- a whole record is read, and what stands for it is the writer's bytes of that point
 module _ (f : Format) (s : List ℕ) (whole : PointPart f s) where
@@ -65,20 +66,9 @@ points-same f m (suc k) s long h bytes =
     let rest : pointsBack f m k (drop m s) ≡ take (k * m) (drop m s) = points-same f m k (drop m s) long (simp length-drop (omega arith)) (bytes-drop m s bytes) in
     rw (first, rest, more, take-add)
 
--- a code that has a format, and the length of that format
-pub code-known : (o : Outline) → HasFormat o → formatOf (o .«point_data_record_format») ≡ new.Is (coded (o .«point_data_record_format») false)
-unfolding formatOf
-code-known o has = rw (lt-ltb _ _ (has .known))
-
-pub code-length : (o : Outline) → HasFormat o → lenOf (coded (o .«point_data_record_format») false) ≡ len.Is (recordBytes (coded (o .«point_data_record_format») false))
-unfolding lenOf
-code-length o has =
-    let fits : recordBytes (coded (o .«point_data_record_format») false) ≤ 65535 = omega (arith, has .long, has .fits) in
-    rw (le-ltb 65535 (recordBytes (coded (o .«point_data_record_format») false)) fits)
-
 -- a record of the file's format has the header's record length
 pub format-length : (o : Outline) → HasFormat o → lenOf (pointFormat o) ≡ len.Is (o .«point_data_record_length»)
-unfolding pointFormat coded lenOf
+unfolding pointFormat coded formatBytes lenOf
 format-length o has =
     let f = coded (o .«point_data_record_format») false in
     let size : recordBytes (pointFormat o) ≡ o .«point_data_record_length» = omega (arith, record-sum (pointFormat o), record-sum f, has .long) in

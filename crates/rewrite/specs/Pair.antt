@@ -15,7 +15,8 @@ use Rattle.header.specs.Header.{number}
 use Rattle.header.specs.Window.{num-take}
 use Rattle.header.specs.Laws as header
 use Rattle.header_write.specs.Back.{Paired}
-use Rattle.rewrite.specs.Back.{headerBack, HeaderPart}
+use Rattle.rewrite.specs.Back.{headerBack}
+use Rattle.rewrite.specs.Asked.{HeaderPart}
 use Rattle.rewrite.specs.Laws.{header-same, header-half}
 
 -- a header of version 1.4, "an EVLR pair of which either is zero"

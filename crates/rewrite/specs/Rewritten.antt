@@ -1,6 +1,5 @@
 -- The rewritten file: its parts in their order, each written from what its reader answers; document 01, "rewriting".
-use Prim.Native.Nat.{ℕ, _+_, _≤_}
-use mathlib.Core.Path.{_≡_}
+use Prim.Native.Nat.{ℕ}
 use mathlib.Core.Bool.{cond}
 use mathlib.Core.List.{List, [], _∷_, _++_}
 use lib.Dec.{leb}
@@ -14,7 +13,7 @@ use Rattle.cursor.specs.declared.Part.{Part}
 use Rattle.cursor.specs.Parts.{outlineIn, partsOf, bytesOf}
 use Rattle.rewrite.specs.declared.Rewrote.{Rewrote}
 use Rattle.rewrite.specs.declared.Rewrote.the-variants.{Bytes, Refused}
-use Rattle.rewrite.specs.Back.{partBack, PartIs}
+use Rattle.rewrite.specs.Back.{partBack}
 
 -- what stands for some parts
 unfoldable pub backOf : Outline → List ℕ → List Part → List ℕ
@@ -29,14 +28,3 @@ rewrittenBy (checked.Refused r k n) back m d = (Refused r k, d)
 
 unfoldable pub rewrittenOf : ℕ → List ℕ → List ℕ → Rewrote × List ℕ
 rewrittenOf allowance s d = rewrittenBy (checkedOf allowance s) (backOf (outlineIn s) s (partsOf (outlineIn s) s)) (length s) d
-
--- What the loop goes by: a part that begins at a place, ends in the file, and is whole ..
-pub record At (o : Outline) (s : List ℕ) (at : ℕ) (p : Part) : Type 0 where
-  pub start : p .start ≡ at
-  pub ends : at + p .length ≤ length s
-  pub whole : PartIs o (p .kind) (bytesOf s p)
-
--- .. and parts from one place to another, each beginning where the one before it ends
-abbrev pub Tiles : Outline → List ℕ → ℕ → List Part → ℕ → Type 0
-Tiles o s at [] end = at ≡ end
-Tiles o s at (p ∷ ps) end = At o s at p × Tiles o s (at + p .length) ps end

@@ -1,11 +1,11 @@
 -- The parts of an accepted file cover it, are whole, and only the first is a header.
-use Prim.Native.Nat.{ℕ, zero, suc, _+_, _-_, _*_, _≤_, _<_}
-use mathlib.Core.Path.{_≡_, refl, ap, sym, subst, _∙_}
+use Prim.Native.Nat.{ℕ, zero, suc, _+_, _-_, _≤_, _<_}
+use mathlib.Core.Path.{_≡_, refl, sym, subst, _∙_}
 use mathlib.Core.Bool.{Bool, true, false, cond}
 use mathlib.Core.List.{List, [], _∷_, _++_}
 use native.Mathlib.Nat.{zero-add}
 use native.Mathlib.Omega.{arith}
-use borrow.Author.Tests.{ltb-true, ltb-false}
+use borrow.Author.Tests.{ltb-false}
 use lib.Dec.{ltb}
 use lib.ListN.{length, take, drop, length-take, length-drop}
 use lib.Seq.{take-take, length-take-le}
@@ -20,18 +20,17 @@ use Rattle.header.specs.Laws.{accepted, within, agreed}
 use Rattle.outline.specs.declared.Outline.{Outline}
 use Rattle.outline.specs.Outline.{outlineOf}
 use Rattle.file.specs.declared.Checked.the-variants as checked
-use Rattle.file.specs.Rules.{formatBytes, pointsEnd, checkedOf}
+use Rattle.file.specs.Rules.{pointsEnd, checkedOf}
 use Rattle.file.specs.Holds.{Holds}
 use Rattle.file.specs.Theorems.{accepted-holds}
 use Rattle.cursor.specs.declared.Part.{Part}
 use Rattle.cursor.specs.declared.Kind.{Kind}
-use Rattle.cursor.specs.declared.Kind.the-variants.{Header, Vlr, Gap, Points, Evlr}
-use Rattle.cursor.specs.Parts.{part, gap, between, recordParts, outlineIn, evlrsStart, partsOf, Records, Laid, bytesOf}
+use Rattle.cursor.specs.declared.Kind.the-variants.{Vlr, Gap, Points, Evlr}
+use Rattle.cursor.specs.Parts.{part, gap, between, recordParts, outlineIn, evlrsStart, partsOf, Records}
 use Rattle.cursor.specs.Laws.{drop-between}
 use Rattle.cursor.specs.Accepted.{laid}
-use Rattle.rewrite.specs.Back.{HeaderPart, VlrPart, HasFormat, PartIs}
+use Rattle.rewrite.specs.Asked.{HeaderPart, VlrPart, HasFormat, PartIs, At, Tiles}
 use Rattle.rewrite.specs.Laws.{record-whole}
-use Rattle.rewrite.specs.Rewritten.{At, Tiles}
 use Rattle.rewrite.specs.Whole.{isHeader, NoHeader, HeaderFirst, tiles-append}
 
 no-header-append : (xs ys : List Part) → NoHeader xs → NoHeader ys → NoHeader (xs ++ ys)
@@ -96,7 +95,7 @@ module _ (allowance : ℕ) (s : List ℕ) (h : Holds allowance s) where
       subst (λ (n : ℕ). HeaderPart (take n s)) ends-at (h .block, rw (length-take-le (h .end) s (w .2)) same)
 
   has-format : Bytes s → HasFormat (outlineIn s)
-  unfolding outlineOf readOf readBy headerOf formatBytes
+  unfolding outlineOf readOf readBy headerOf
   has-format bytes =
       let small : outlineIn s .«point_data_record_length» < 65536 = rw (h .header) (num-lt 2 (take (h .block) s) 105 (bytes-take (h .block) s bytes)) in
       record { known = omega (arith, h .parts .format); long = h .parts .record-length; fits = omega arith }

@@ -1,7 +1,6 @@
 -- What rewriting comes to: document 01, "rewriting", and the mission's "Written back, it has the same bytes".
 use Prim.Native.Nat.{ℕ, _+_, _≤_, _<_}
 use mathlib.Core.Path.{_≡_, refl, ap, sym, subst, _∙_}
-use mathlib.Core.Bool.{Bool, true, false, cond}
 use mathlib.Core.Logic.{_⊎_}
 use mathlib.Core.List.{List, [], _∷_, _++_, append-assoc}
 use native.Mathlib.Omega.{arith}
@@ -22,11 +21,11 @@ use Rattle.file.specs.Rules.{checkedOf}
 use Rattle.file.specs.Theorems.{accepted-holds}
 use Rattle.cursor.specs.declared.Part.{Part}
 use Rattle.cursor.specs.Parts.{outlineIn, partsOf, bytesOf}
-use Rattle.rewrite.specs.declared.Rewrote.{Rewrote}
 use Rattle.rewrite.specs.declared.Rewrote.the-variants as rewrote
 use Rattle.rewrite.specs.Back.{partBack}
 use Rattle.rewrite.specs.Pair.{written, paired-same, zero-cleared}
-use Rattle.rewrite.specs.Rewritten.{backOf, rewrittenOf, Tiles}
+use Rattle.rewrite.specs.Rewritten.{backOf, rewrittenOf}
+use Rattle.rewrite.specs.Asked.{Tiles}
 use Rattle.rewrite.specs.Whole.{length-back, length-tiles, whole-same}
 use Rattle.rewrite.specs.Sound.{header-whole, file-tiles, header-first}
 

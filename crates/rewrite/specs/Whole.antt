@@ -1,5 +1,5 @@
 -- Of bytes, what stands for all parts is the file, but for the header's EVLR pair.
-use Prim.Native.Nat.{ℕ, _+_, _-_, _≤_}
+use Prim.Native.Nat.{ℕ, _+_, _-_}
 use mathlib.Core.Path.{_≡_, refl, ap, sym, _∙_}
 use mathlib.Core.Bool.{Bool, true, false}
 use mathlib.Core.List.{List, [], _∷_, _++_}
@@ -13,11 +13,12 @@ use Rattle.outline.specs.declared.Outline.{Outline}
 use Rattle.cursor.specs.declared.Part.{Part}
 use Rattle.cursor.specs.declared.Kind.{Kind}
 use Rattle.cursor.specs.declared.Kind.the-variants.{Header, Vlr, Gap, Points, Evlr}
-use Rattle.rewrite.specs.Back.{partBack, PartIs}
+use Rattle.rewrite.specs.Back.{partBack}
 use Rattle.rewrite.specs.Laws.{bytes-drop, format-length, part-same, vlr-same}
 use Rattle.rewrite.specs.Pair.{written, header-written, length-written, written-append}
 use Rattle.cursor.specs.Parts.{bytesOf}
-use Rattle.rewrite.specs.Rewritten.{backOf, At, Tiles}
+use Rattle.rewrite.specs.Rewritten.{backOf}
+use Rattle.rewrite.specs.Asked.{PartIs, At, Tiles}
 
 abbrev pub isHeader : Kind → Bool
 isHeader Header = true

@@ -1,8 +1,7 @@
 -- Kind by kind, what is asked of the part and what stands for it are those of the kind's own function.
-use Prim.Native.Nat.{_*_}
-use mathlib.Core.Path.{_≡_, _∙_}
 use borrow.Author.Needs.{needs}
-use Rattle.rewrite.specs.Back.{PartIs, partBack}
+use Rattle.rewrite.specs.Back.{partBack}
+use Rattle.rewrite.specs.Asked.{PartIs}
 use Rattle.rewrite.specs.Laws.{format-length}
 use Rattle.rewrite.proofs.rewrite_part.Statement.{statement}
 use Rattle.rewrite.proofs.rewrite_part.Tie as tie

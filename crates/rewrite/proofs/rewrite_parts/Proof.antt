@@ -1,7 +1,7 @@
 -- The invariant is over the parts that are left: from a place on they cover the file, and laid there they make of the
 -- destination what is promised.
 use Prim.Native.Nat.{ℕ, _+_, _≤_}
-use mathlib.Core.Path.{_≡_, refl, ap, sym, _∙_}
+use mathlib.Core.Path.{_≡_, refl, ap, _∙_}
 use mathlib.Core.List.{_∷_}
 use native.Mathlib.Omega.{arith}
 use borrow.Author.Needs.{needs}
@@ -10,7 +10,8 @@ use lib.Seq.{sets}
 use Rattle.le.specs.Le.{Bytes}
 use Rattle.lent.specs.Laws.{whole}
 use Rattle.cursor.specs.Cursor.{leftOf}
-use Rattle.rewrite.specs.Rewritten.{backOf, At, Tiles}
+use Rattle.rewrite.specs.Rewritten.{backOf}
+use Rattle.rewrite.specs.Asked.{At, Tiles}
 use Rattle.rewrite.specs.Whole.{length-tiles}
 use Rattle.rewrite.proofs.Turn.{cut-length, cut-whole, part-turn, first-left, none-left}
 use Rattle.rewrite.proofs.rewrite_parts.Statement.{statement}

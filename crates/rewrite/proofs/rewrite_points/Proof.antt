@@ -1,11 +1,10 @@
 -- The invariant is over what is left: laid from here on, it makes of the destination what is promised.
-use Prim.Native.Nat.{ℕ, _+_, _-_, _*_, _≤_}
-use mathlib.Core.Path.{_≡_, refl, ap, sym, _∙_}
+use Prim.Native.Nat.{_+_, _-_, _*_}
+use mathlib.Core.Path.{_≡_, refl, ap, _∙_}
 use native.Mathlib.Omega.{arith}
 use borrow.Author.Needs.{needs}
 use lib.ListN.{length, drop, length-take, length-drop}
 use lib.Seq.{sets}
-use Rattle.le.specs.Le.{Bytes}
 use Rattle.lent.specs.Laws.{whole}
 use Rattle.rewrite.specs.Back.{pointsBack}
 use Rattle.rewrite.specs.Laws.{part-same}
