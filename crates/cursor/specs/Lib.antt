@@ -4,4 +4,5 @@ pub mod Laws
 pub mod Count
 pub mod Stays
 pub mod Accepted
+pub mod Covers
 pub mod Theorems

@@ -1,93 +1,57 @@
--- The parts of an accepted file: they cover it exactly, and stepping from the first cursor tells them one by one.
-use Prim.Native.Nat.{ℕ, zero, suc, _+_, _-_, _≤_}
-use mathlib.Core.Path.{_≡_, refl, ap, sym, subst, _∙_}
+-- What is promised of the parts of an accepted file.
+use Prim.Native.Nat.{ℕ, zero, suc}
+use mathlib.Core.Path.{_≡_, refl, sym, ap, _∙_}
 use mathlib.Core.Bool.{Bool, true, false, cond}
-use mathlib.Core.List.{List, [], _∷_, _++_, append-nil}
-use native.Mathlib.Nat.{zero-add}
-use native.Mathlib.Omega.{arith}
-use borrow.Author.Tests.{ltb-true, ltb-false}
-use lib.Dec.{ltb}
-use lib.ListN.{length, take, drop}
-use lib.Seq.{take-add, drop-drop}
-use Rattle.vlr.specs.Vlr.{recordSize, extentOf}
-use Rattle.vlr.specs.Laws.{Whole, takes}
-use Rattle.outline.specs.declared.Outline.{Outline}
-use Rattle.file.specs.Rules.{pointsEnd}
-use Rattle.cursor.specs.declared.Kind.{Kind}
-use Rattle.cursor.specs.declared.Kind.the-variants as kind
+use mathlib.Core.List.{List, [], _∷_}
+use native.Mathlib.Nat.{sub-zero}
+use lib.ListN.{length, take}
+use lib.Seq.{take-length}
+use Rattle.file.specs.declared.Checked.the-variants as checked
+use Rattle.file.specs.Rules.{checkedOf}
 use Rattle.cursor.specs.declared.Part.{Part}
-use Rattle.cursor.specs.Parts.{part, gap, between, recordParts, evlrsStart, partsOf, Records, Laid, Covers, bytesOf, joined}
-use Rattle.cursor.specs.Cursor.{planOf, firstOf, whenBytes, recordsFrom, evlrsFrom, endFrom, pointsFrom, vlrsFrom, leftOf}
-use Rattle.cursor.specs.Laws.{between-short, drop-between}
+use Rattle.cursor.specs.declared.Cursor.{Cursor}
+use Rattle.cursor.specs.declared.Step.{Step}
+use Rattle.cursor.specs.declared.Started.the-variants as started
+use Rattle.cursor.specs.Parts.{outlineIn, partsOf, Covers, joined}
+use Rattle.cursor.specs.Cursor.{planOf, firstOf, startedBy, startedOf, stepOf, leftOf, toldBy}
+use Rattle.cursor.specs.Laws.{left-step}
+use Rattle.cursor.specs.Stays.{stays}
+use Rattle.cursor.specs.Accepted.{laid}
+use Rattle.cursor.specs.Covers.{covered, first-tells, joined-is}
 
-covers-both : (from mid to : ℕ) (ps qs : List Part) → Covers from mid ps → Covers mid to qs → Covers from to (ps ++ qs)
-covers-both from mid to [] qs e h = subst (λ (n : ℕ). Covers n to qs) (sym e) h
-covers-both from mid to (p ∷ ps) qs (e, h) h′ = (e, covers-both (from + p .length) mid to ps qs h h′)
+-- what k steps tell, from a cursor on
+abbrev pub steps : ℕ → List ℕ → Cursor → List Part
+steps zero s c = []
+steps (suc k) s c = toldBy (steps k s) (stepOf s c)
 
-covers-gap : (from to : ℕ) → from ≤ to → Covers from to (gap from to)
-unfolding gap
-covers-gap from to le = go (ltb from to) refl
+tells : (k : ℕ) (s : List ℕ) (c : Cursor) → steps k s c ≡ take k (leftOf s c)
+tells zero s c = refl
+tells (suc k) s c = go (stepOf s c .has) refl (tells k s (stepOf s c .next)) ∙ ap (take (suc k)) (sym (left-step s c))
   where
-    go : (b : Bool) → ltb from to ≡ b → Covers from to (cond b (part kind.Gap from (to - from) ∷ []) [])
-    go true e = (refl, omega arith)
-    go false e = omega (arith, ltb-false from to e)
+    go : (b : Bool) → stepOf s c .has ≡ b → steps k s (stepOf s c .next) ≡ take k (leftOf s (stepOf s c .next)) → toldBy (steps k s) (stepOf s c) ≡ take (suc k) (toldBy (leftOf s) (stepOf s c))
+    go true e h = rw e (ap (λ (ps : List Part). stepOf s c .part ∷ ps) h)
+    go false e h = rw e
 
-module _ (s : List ℕ) (k : Kind) (extended : Bool) where
-  -- what is left after the first of some records
-  others : (n at to : ℕ) → Records extended n (drop (recordSize extended (between at to s)) (between at to s)) → Records extended n (between (at + recordSize extended (between at to s)) to s)
-  others n at to r = subst (Records extended n) (drop-between (recordSize extended (between at to s)) at to s) r
+module _ (allowance : ℕ) (s : List ℕ) {n : ℕ} (accepted : checkedOf allowance s ≡ checked.Accepted n) where
+  abbrev parts : List Part
+  parts = partsOf (outlineIn s) s
 
-  covers-records : (n at to : ℕ) → at ≤ to → Records extended n (between at to s) → Covers at to (recordParts k extended n at to s)
-  unfolding recordParts
-  covers-records zero at to le r = covers-gap at to le
-  covers-records (suc n) at to le (here, r) =
-      (refl, covers-records n (at + recordSize extended (between at to s)) to (omega (arith, between-short at to s)) (others n at to r))
+  -- "the parts of an accepted file cover it exactly, byte after byte, none overlapping"
+  pub cover : Covers 0 (length s) parts
+  cover = covered (outlineIn s) s (laid allowance s accepted)
 
-  -- what a cursor tells of records that are all there
-  tells-records : (n at to : ℕ) (after : List Part) → Records extended n (between at to s) → recordsFrom s k extended n at to after ≡ recordParts k extended n at to s ++ after
-  unfolding recordsFrom recordParts recordSize
-  tells-records zero at to after r = refl
-  tells-records (suc n) at to after (here, r) =
-      let m = recordSize extended (between at to s) in
-      rw (takes extended (between at to s) m (record { size = refl; there = here }))
-      (ap (λ (ps : List Part). part k at m ∷ ps) (tells-records n (at + m) to after (others n at to r)))
+  -- so that, joined, they are the file
+  pub whole : joined s parts ≡ s
+  whole = joined-is s 0 (length s) parts cover ∙ rw (sub-zero, take-length)
 
-points-from : (o : Outline) → o .«offset_to_point_data» ≤ pointsEnd o
-unfolding pointsEnd
-points-from o = omega arith
+  -- a cursor starts, and each step from there tells the next of the parts in file order
+  pub starts : startedOf allowance s ≡ started.At (firstOf (planOf (outlineIn s)))
+  unfolding startedOf
+  starts = rw accepted
 
-module _ (o : Outline) (s : List ℕ) (laid : Laid o s) where
-  -- The parts cover the file exactly, byte after byte, none overlapping.
-  pub covered : Covers 0 (length s) (partsOf o s)
-  unfolding partsOf
-  covered =
-      let points = o .«offset_to_point_data» in
-      let start = evlrsStart o in
-      let vlrs = recordParts kind.Vlr false (o .«number_of_variable_length_records») (o .«header_size») points s in
-      let evlrs = recordParts kind.Evlr true (o .«number_of_evlrs») start (length s) s in
-      let at-end : points + (pointsEnd o - points) ≡ pointsEnd o = omega (arith, points-from o) in
-      let after : Covers (pointsEnd o) (length s) (gap (pointsEnd o) start ++ evlrs) =
-      covers-both (pointsEnd o) start (length s) (gap (pointsEnd o) start) evlrs (covers-gap (pointsEnd o) start (laid .after-points))
-      (covers-records s kind.Evlr true (o .«number_of_evlrs») start (length s) (laid .within) (laid .evlrs)) in
-      let before : Covers (o .«header_size») points vlrs = covers-records s kind.Vlr false (o .«number_of_variable_length_records») (o .«header_size») points (laid .after-header) (laid .vlrs) in
-      (refl, rw zero-add (covers-both (o .«header_size») points (length s) vlrs (part kind.Points points (pointsEnd o - points) ∷ (gap (pointsEnd o) start ++ evlrs)) before (refl, rw at-end after)))
+  pub in-order : (k : ℕ) → steps k s (firstOf (planOf (outlineIn s))) ≡ take k parts
+  in-order k = tells k s (firstOf (planOf (outlineIn s))) ∙ ap (take k) (first-tells (outlineIn s) s (laid allowance s accepted))
 
-  -- The first cursor has just these parts to tell.
-  pub first-tells : leftOf s (firstOf (planOf o)) ≡ partsOf o s
-  unfolding partsOf firstOf planOf leftOf vlrsFrom pointsFrom endFrom evlrsFrom
-  first-tells =
-      let evlrs = tells-records s kind.Evlr true (o .«number_of_evlrs») (evlrsStart o) (length s) [] (laid .evlrs) in
-      rw (tells-records s kind.Vlr false (o .«number_of_variable_length_records») (o .«header_size») (o .«offset_to_point_data») _ (laid .vlrs), evlrs, append-nil)
-
-covers-up : (from to : ℕ) (ps : List Part) → Covers from to ps → from ≤ to
-covers-up from to [] e = omega arith
-covers-up from to (p ∷ ps) (e, h) = omega (arith, covers-up (from + p .length) to ps h)
-
--- Parts that cover some bytes, joined, are these bytes.
-pub joined-is : (s : List ℕ) (from to : ℕ) (ps : List Part) → Covers from to ps → joined s ps ≡ between from to s
-joined-is s from to [] e =
-    let none : to - from ≡ 0 = omega arith in
-    rw none
-joined-is s from to (p ∷ ps) (e, h) =
-    let split : to - from ≡ p .length + (to - (from + p .length)) = omega (arith, covers-up (from + p .length) to ps h) in
-    rw (joined-is s (from + p .length) to ps h, e, split, take-add, drop-drop)
+-- after the last part there is none, for ever
+pub none-for-ever : (s : List ℕ) (c : Cursor) → stepOf s c .has ≡ false → stepOf s (stepOf s c .next) ≡ stepOf s c
+none-for-ever = stays
