@@ -16,7 +16,7 @@ use Rattle.cursor.specs.declared.Started.the-variants as started
 use Rattle.cursor.specs.Parts.{outlineIn, partsOf}
 use Rattle.cursor.specs.Cursor.{planOf, firstOf, startedBy, startedOf, leftOf}
 use Rattle.cursor.specs.Accepted.{laid}
-use Rattle.cursor.specs.Theorems.{first-tells}
+use Rattle.cursor.specs.Covers.{first-tells}
 use Rattle.rewrite.specs.declared.Rewrote.the-variants.{Bytes, Refused}
 use Rattle.rewrite.specs.Rewritten.{backOf, rewrittenBy, rewrittenOf}
 use Rattle.rewrite.specs.Asked.{Tiles}

@@ -10,6 +10,7 @@ use borrow.Author.Tests.{le-ltb}
 use lib.ListN.{length, take, drop, replicate, length-drop}
 use lib.Seq.{take-add, take-all, take-length, length-take-le, getD-drop}
 use Rattle.le.specs.Le.{Bytes}
+use Rattle.le.specs.Laws.{num-take}
 use Rattle.format.specs.declared.Format.{Format}
 use Rattle.format.specs.declared.FormatLen.the-variants as len
 use Rattle.format.specs.Fields.{lenOf, recordBytes}
@@ -29,7 +30,7 @@ use Rattle.vlr.specs.Laws as vlr
 use Rattle.vlr.specs.Heads.{record-back}
 use Rattle.header.specs.Layout.{VersionMinor, StartOfFirstEvlr, NumberOfEvlrs}
 use Rattle.header.specs.Header.{number}
-use Rattle.header.specs.Window.{num-take, bytes-take}
+use Rattle.header.specs.Window.{bytes-take}
 use Rattle.header_write.specs.Back.{Paired}
 use Rattle.header_write.specs.Theorems as header
 use Rattle.outline.specs.declared.Outline.{Outline}
@@ -80,8 +81,8 @@ part-same f m k s whole bytes = points-same f m k s (whole .0) (omega (arith, wh
 
 -- a record's length stands in its head
 length-cut : (extended : Bool) (s : List ℕ) (n : ℕ) → headSize extended ≤ n → lengthOf extended (take n s) ≡ lengthOf extended s
-length-cut true s n h = ap kind.Evlr (num-take n s 8 20 (omega arith))
-length-cut false s n h = ap kind.Vlr (num-take n s 2 20 (omega arith))
+length-cut true s n h = ap kind.Evlr (num-take 8 20 s n (omega arith))
+length-cut false s n h = ap kind.Vlr (num-take 2 20 s n (omega arith))
 
 pub vlr-same : (extended : Bool) (s : List ℕ) → VlrPart extended s → Bytes s → vlrBack extended s ≡ s
 unfolding vlrBack

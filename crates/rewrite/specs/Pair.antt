@@ -10,9 +10,9 @@ use lib.Dec.{eqb}
 use lib.ListN.{length, take, drop, replicate, length-append, length-take, length-drop}
 use lib.Seq.{take-append-le, drop-append-le, take-append-seam}
 use Rattle.le.specs.Le.{num, Bytes}
+use Rattle.le.specs.Laws.{num-take}
 use Rattle.header.specs.Layout.{VersionMinor, StartOfFirstEvlr, NumberOfEvlrs, size, fieldsOf}
 use Rattle.header.specs.Header.{number}
-use Rattle.header.specs.Window.{num-take}
 use Rattle.header.specs.Laws as header
 use Rattle.header_write.specs.Back.{Paired}
 use Rattle.rewrite.specs.Back.{headerBack}
@@ -44,7 +44,7 @@ header-written s whole bytes = go (eqb (number VersionMinor s) 4) (eqb (number S
 
 -- a number of a list, whatever follows
 number-append : (w at : ℕ) (s t : List ℕ) → at + w ≤ length s → num w at (s ++ t) ≡ num w at s
-number-append w at s t h = sym (num-take (length s) (s ++ t) w at h) ∙ ap (num w at) (take-append-seam s t)
+number-append w at s t h = sym (num-take w at (s ++ t) (length s) h) ∙ ap (num w at) (take-append-seam s t)
 
 module _ (s : List ℕ) (whole : HeaderPart s) where
   -- a header of version 1.4 has its pair

@@ -10,12 +10,12 @@ use lib.Dec.{ltb}
 use lib.ListN.{length, take, drop, length-take, length-drop}
 use lib.Seq.{take-take, length-take-le}
 use Rattle.le.specs.Le.{Bytes}
-use Rattle.le.specs.Laws.{num-lt}
+use Rattle.le.specs.Laws.{num-take, num-lt}
 use Rattle.vlr.specs.Vlr.{recordSize}
 use Rattle.header.specs.Layout.{HeaderSize}
 use Rattle.header.specs.Header.{number, headerOf}
 use Rattle.header.specs.Judged.{readBy, readOf, paddedTo}
-use Rattle.header.specs.Window.{num-take, bytes-take}
+use Rattle.header.specs.Window.{bytes-take}
 use Rattle.header.specs.Laws.{accepted, within, agreed}
 use Rattle.outline.specs.declared.Outline.{Outline}
 use Rattle.outline.specs.Outline.{outlineOf}
@@ -77,7 +77,7 @@ module _ (allowance : ℕ) (s : List ℕ) (h : Holds allowance s) where
   -- the header's fields are those of the file's bytes
   field-is : outlineIn s .«header_size» ≡ number HeaderSize s
   unfolding outlineOf readOf readBy headerOf
-  field-is = rw (h .header) (num-take (h .block) s 2 94 (omega (arith, within s (h .header) .0)))
+  field-is = rw (h .header) (num-take 2 94 s (h .block) (omega (arith, within s (h .header) .0)))
 
   -- so the header with its padding ends where the header-size field says
   ends-at : h .end ≡ outlineIn s .«header_size»

@@ -1,7 +1,7 @@
 // Rewriting: each part of a file is read, and what its reader answers is written to the same place of the destination.
 ghost use mathlib.Core.Path.{_≡_};
 ghost use mathlib.Core.List.{_++_};
-ghost use Prim.Native.Nat.{_≤_, _<_};
+ghost use Prim.Native.Nat.{_≤_};
 ghost use lib.ListN.{length, drop};
 ghost use Rattle.cursor.specs.Cursor.{leftOf};
 ghost use Rattle.rewrite.specs.Rewritten.{backOf, rewrittenOf};
@@ -127,7 +127,8 @@ fn rewrite_points(src: &[u8], format: Format, record_length: usize, count: usize
     }
 }
 
-// The format of the file's points: the header's, and what its record length has beyond that is extra bytes.
+// The format of the file's points: the header's, and what its record length has beyond that is extra bytes. A code of an
+// accepted file has a format and a length, so neither else is reached.
 fn point_format(o: Outline) -> Format
     requires { ⌜ HasFormat o ⌝ }
     ensures { λ r. ⌜ r ≡ pointFormat o ⌝ }
@@ -142,7 +143,8 @@ fn point_format(o: Outline) -> Format
     format
 }
 
-// A point and its extra bytes, written from what their readers answer.
+// A point and its extra bytes, written from what their readers answer. A whole record is not refused, so the else is not
+// reached.
 fn rewrite_point(src: &[u8], format: Format, dst: &mut [u8])
     requires { ⌜ PointPart format (now src) × (length (now src) ≤ length (now dst)) ⌝ }
     ensures { λ _. ⌜ now (dst .exit) ≡ pointBack format (now (src .entry)) ++ drop (length (now (src .entry))) (now (dst .entry)) ⌝ }

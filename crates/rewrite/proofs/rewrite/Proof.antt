@@ -1,3 +1,4 @@
+-- By what the started cursor answers: `Answer` says what each answer means, and the outline that is read is the file's.
 use mathlib.Core.Path.{_≡_, ap, sym, _∙_}
 use mathlib.Core.List.{List}
 use Prim.Native.Nat.{ℕ}
