@@ -44,12 +44,7 @@ pub extern "C" fn las_file_check(file: &[u8], allowance: u64, row: &mut [u64; 4]
 // The parts of the file, three numbers each, to the front of the table; the row's value is how many parts there are. Refused with
 // 22 and the parts wanted where the table has no three numbers for each; a refusal leaves the table.
 #[no_mangle]
-pub extern "C" fn las_file_parts(
-    file: &[u8],
-    allowance: u64,
-    table: &mut [u64],
-    row: &mut [u64; 3],
-)
+pub extern "C" fn las_file_parts(file: &[u8], allowance: u64, table: &mut [u64], row: &mut [u64; 3])
     ensures { λ _. ⌜ (now (row .exit), now (table .exit)) ≡ partsRow (now (file .entry)) (now (table .entry)) (startedOf allowance (now (file .entry))) ⌝ }
 {
     match cursor::start(file, allowance) {
