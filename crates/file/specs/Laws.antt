@@ -1,6 +1,6 @@
 -- Laws of the rules.
 use Prim.Native.Nat.{ℕ, zero, suc, _+_, _-_, _≤_, _<_}
-use mathlib.Core.Path.{_≡_, refl, subst}
+use mathlib.Core.Path.{_≡_, refl, sym, ap, subst}
 use mathlib.Core.Bool.{Bool, true, false, cond, _&&_}
 use mathlib.Core.List.{List, [], _∷_, _++_}
 use native.Mathlib.Omega.{arith}
@@ -60,6 +60,27 @@ refused-first (x ∷ xs) done n {r} {k} {m} p = go (x .holds) p (refused-first x
     go : (b : Bool) → cond b (first xs (Accepted n)) (refusedBy x) ≡ Refused r k m → (first xs (Accepted n) ≡ Refused r k m → first xs done ≡ Refused r k m) → cond b (first xs done) (refusedBy x) ≡ Refused r k m
     go true h later = later h
     go false h later = h
+
+-- the first of some rules that fails: all before it hold, and it does not
+pub record FirstFailing (rs : List Rule) (x : Checked) : Type 0 where
+  pub before : List Rule
+  pub failing : Rule
+  pub after : List Rule
+  pub order : rs ≡ before ++ (failing ∷ after)
+  pub hold : All before
+  pub fails : failing .holds ≡ false
+  pub answer : x ≡ refusedBy failing
+
+pub first-failing : (rs : List Rule) (n : ℕ) {r : Refusal} {k m : ℕ} → first rs (Accepted n) ≡ Refused r k m → FirstFailing rs (Refused r k m)
+unfolding first
+first-failing [] n p = let z : _≡_ {A = ℕ} 0 1 = cc in absurd (omega arith)
+first-failing (x ∷ xs) n {r} {k} {m} p = go (x .holds) refl p (first-failing xs n)
+  where
+    go : (b : Bool) → x .holds ≡ b → cond b (first xs (Accepted n)) (refusedBy x) ≡ Refused r k m → (first xs (Accepted n) ≡ Refused r k m → FirstFailing xs (Refused r k m)) → FirstFailing (x ∷ xs) (Refused r k m)
+    go true q h later =
+        let f = later h in
+        record { before = x ∷ f .before; failing = f .failing; after = f .after; order = ap (λ (l : List Rule). x ∷ l) (f .order); hold = (q, f .hold); fails = f .fails; answer = f .answer }
+    go false q h later = record { before = []; failing = x; after = xs; order = refl; hold = tt; fails = q; answer = sym h }
 
 -- the header reader answers as rule 1 judges
 pub answer-is : (s : List ℕ) → readOf s .answer ≡ judged s

@@ -1,3 +1,6 @@
 pub mod Rules
 pub mod Steps
 pub mod Laws
+pub mod Holds
+pub mod Counts
+pub mod Theorems

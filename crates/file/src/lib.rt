@@ -144,13 +144,8 @@ fn check_evlrs(file: &[u8], allowance: u64, o: Outline, end: usize) -> Checked
     if (file.len() as u64) < start {
         return refused(Refusal::EvlrStart(start), vlrs as u64);
     }
-    check_records(
-        &file[start as usize..],
-        true,
-        allowance,
-        vlrs,
-        o.number_of_evlrs,
-    )
+    let rest = &file[start as usize..];
+    check_records(rest, true, allowance, vlrs, o.number_of_evlrs)
 }
 
 // `count` records at the start of `rest`, one after the other, after `found` others; each spends one of the allowance.

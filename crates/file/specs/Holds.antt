@@ -1,0 +1,187 @@
+-- Rules 1 to 8 of document 01 as one conjunction, in ℕ and without an order; that the list of rules says the same.
+use Prim.Native.Nat.{ℕ, zero, suc, _+_, _*_, _-_, _≤_, _<_}
+use mathlib.Core.Path.{_≡_, refl, sym, subst}
+use mathlib.Core.Bool.{Bool, true, false, cond, _||_}
+use mathlib.Core.List.{List, [], _∷_, _++_}
+use native.Mathlib.Omega.{arith}
+use borrow.Author.Tests.{lt-ltb, le-leb, ltb-true, leb-true, eqb-true, eqb-false}
+use lib.Dec.{T, eqb, ltb, leb}
+use lib.ListN.{length, take, drop}
+use Rattle.refusal.specs.declared.Refusal.the-variants.{EvlrStart}
+use Rattle.vlr.specs.Layout.{headSize}
+use Rattle.vlr.specs.Vlr.{recordSize}
+use Rattle.header.specs.declared.HeaderAnswer.{HeaderAnswer}
+use Rattle.header.specs.declared.HeaderAnswer.the-variants as answer
+use Rattle.header.specs.Judged.{judged, readOf}
+use Rattle.outline.specs.declared.Outline.{Outline}
+use Rattle.outline.specs.Outline.{outlineOf}
+use Rattle.file.specs.Rules.{Rule, rule, highestFormat, formatBytes, headerRules, recordRules, pointsEnd, vlrBytes, vlrRules, pointRule, evlrRules, partRules, outlineRules, readable, standardSize, rulesOf}
+use Rattle.file.specs.Laws.{All}
+
+-- k records one after the other at the start of `rest`, each ending in it
+abbrev pub Run : Bool → ℕ → List ℕ → Type 0
+Run extended zero rest = Unit
+Run extended (suc k) rest = (recordSize extended rest ≤ length rest) × Run extended k (drop (recordSize extended rest) rest)
+
+-- rules 2 to 8, for a header of standard size n and version 1.minor
+pub record PartsHold (n minor allowance : ℕ) (o : Outline) (s : List ℕ) : Type 0 where
+  -- 2: header-size field not below standard
+  pub header-size : n ≤ o .«header_size»
+  -- 3: format 0 to 10, and one of the version's
+  pub format : o .«point_data_record_format» ≤ 10
+  pub format-for-version : o .«point_data_record_format» ≤ highestFormat minor
+  -- 4: record length not below the format's
+  pub record-length : formatBytes (o .«point_data_record_format») ≤ o .«point_data_record_length»
+  -- 5: point offset not below header size, nor beyond the file
+  pub offset-after-header : o .«header_size» ≤ o .«offset_to_point_data»
+  pub offset-within : o .«offset_to_point_data» ≤ length s
+  -- 6 and 8: an allowance for each VLR and EVLR, one for both kinds
+  pub allowed : o .«number_of_variable_length_records» + o .«number_of_evlrs» ≤ allowance
+  -- 6: each VLR ends at or before the point offset
+  pub vlrs-whole : Run false (o .«number_of_variable_length_records») (vlrBytes o s)
+  -- 7: points end in the file
+  pub points-within : pointsEnd o ≤ length s
+  -- 8: EVLRs, if any, start after the points and in the file, and each ends in the file
+  pub evlr-start : 0 < o .«number_of_evlrs» → (pointsEnd o ≤ o .«start_of_first_evlr») × (o .«start_of_first_evlr» ≤ length s)
+  pub evlrs-whole : Run true (o .«number_of_evlrs») (drop (o .«start_of_first_evlr») s)
+
+-- all eight: the header reader answers, and the rest holds of what it answered
+pub record Holds (allowance : ℕ) (s : List ℕ) : Type 0 where
+  pub block : ℕ
+  pub end : ℕ
+  pub header : judged s ≡ answer.Whole block end
+  pub parts : PartsHold block (readOf s .header .version .minor) allowance (outlineOf (readOf s .header)) s
+
+-- two lists of rules together
+pub all-append : (xs ys : List Rule) → All xs → All ys → All (xs ++ ys)
+all-append [] ys a b = b
+all-append (x ∷ xs) ys (h, a) b = (h, all-append xs ys a b)
+
+pub all-split : (xs ys : List Rule) → All (xs ++ ys) → All xs × All ys
+all-split [] ys a = (tt, a)
+all-split (x ∷ xs) ys (h, a) = let p = all-split xs ys a in ((h, p .0), p .1)
+
+-- a record's head is a part of it
+head-within : (x : Bool) (rest : List ℕ) → headSize x ≤ recordSize x rest
+unfolding recordSize
+head-within x rest = omega arith
+
+-- the rules of records, and back
+pub records-hold : (x : Bool) (a n k : ℕ) (rest : List ℕ) → n ≤ a → All (recordRules x a n k rest) → (n + k ≤ a) × Run x k rest
+unfolding recordRules
+records-hold x a n zero rest h all = (omega arith, tt)
+records-hold x a n (suc k) rest h (allowed, (head, (whole, others))) =
+    let more : n < a = ltb-true n a allowed in
+    let later = records-hold x a (suc n) k (drop (recordSize x rest) rest) (omega arith) others in
+    (omega (arith, later .0), (leb-true _ _ whole, later .1))
+
+pub records-all : (x : Bool) (a n k : ℕ) (rest : List ℕ) → n + k ≤ a → Run x k rest → All (recordRules x a n k rest)
+unfolding recordRules
+records-all x a n zero rest h run = tt
+records-all x a n (suc k) rest h (whole, run) =
+    (lt-ltb n a (omega arith), (le-leb (headSize x) (length rest) (omega (arith, head-within x rest)), (le-leb _ _ whole, records-all x a (suc n) k (drop (recordSize x rest) rest) (omega arith) run)))
+
+positive : (n : ℕ) → (n ≡ 0 → ⊥) → 0 < n
+positive zero h = absurd (h refl)
+positive (suc n) h = omega arith
+
+module _ (n minor a : ℕ) (o : Outline) (s : List ℕ) where
+  -- rule 8 and back
+  record Evlrs : Type 0 where
+    allowed : o .«number_of_variable_length_records» + o .«number_of_evlrs» ≤ a
+    start : 0 < o .«number_of_evlrs» → (pointsEnd o ≤ o .«start_of_first_evlr») × (o .«start_of_first_evlr» ≤ length s)
+    whole : Run true (o .«number_of_evlrs») (drop (o .«start_of_first_evlr») s)
+
+  -- the rules where there are EVLRs
+  abbrev pub some : List Rule
+  some =
+      let vlrs = o .«number_of_variable_length_records» in
+      let start = o .«start_of_first_evlr» in
+      rule (leb (pointsEnd o) start) (EvlrStart start) vlrs ∷ rule (leb start (length s)) (EvlrStart start) vlrs ∷ recordRules true a vlrs (o .«number_of_evlrs») (drop start s)
+
+  evlrs-hold : o .«number_of_variable_length_records» ≤ a → All (evlrRules a o s) → Evlrs
+  unfolding evlrRules
+  evlrs-hold enough = go (eqb (o .«number_of_evlrs») 0) refl
+    where
+      go : (b : Bool) → eqb (o .«number_of_evlrs») 0 ≡ b → All (cond b [] some) → Evlrs
+      go true p all =
+          let none : o .«number_of_evlrs» ≡ 0 = eqb-true _ _ p in
+          record { allowed = omega arith; start = λ more. absurd (omega arith); whole = rw none tt }
+      go false p (after, (inside, records)) =
+          let r = records-hold true a (o .«number_of_variable_length_records») (o .«number_of_evlrs») (drop (o .«start_of_first_evlr») s) enough records in
+          record { allowed = r .0; start = λ more. (leb-true _ _ after, leb-true _ _ inside); whole = r .1 }
+
+  evlrs-all : Evlrs → All (evlrRules a o s)
+  unfolding evlrRules
+  evlrs-all e = go (eqb (o .«number_of_evlrs») 0) refl
+    where
+      go : (b : Bool) → eqb (o .«number_of_evlrs») 0 ≡ b → All (cond b [] some)
+      go true p = tt
+      go false p =
+          let from = e .start (positive (o .«number_of_evlrs») (eqb-false _ _ p)) in
+          (le-leb _ _ (from .0), (le-leb _ _ (from .1), records-all true a (o .«number_of_variable_length_records») (o .«number_of_evlrs») (drop (o .«start_of_first_evlr») s) (e .allowed) (e .whole)))
+
+  pub parts-hold : All (outlineRules n minor a o s) → PartsHold n minor a o s
+  unfolding outlineRules headerRules partRules vlrRules pointRule
+  parts-hold (size, (known, (compressed, (version, (long, (after, (inside, all))))))) =
+      let f = o .«point_data_record_format» in
+      let split = all-split (vlrRules a o s) _ all in
+      let vlrs = records-hold false a 0 (o .«number_of_variable_length_records») (vlrBytes o s) (omega arith) (split .0) in
+      let evlrs = evlrs-hold (omega (arith, vlrs .0)) (split .1 .1) in
+      record {
+        header-size = leb-true _ _ size;
+        format = low f (leb f 10) refl known (ltb-true _ _ compressed);
+        format-for-version = leb-true _ _ version;
+        record-length = leb-true _ _ long;
+        offset-after-header = leb-true _ _ after;
+        offset-within = leb-true _ _ inside;
+        allowed = evlrs .allowed;
+        vlrs-whole = vlrs .1;
+        points-within = leb-true _ _ (split .1 .0);
+        evlr-start = evlrs .start;
+        evlrs-whole = evlrs .whole;
+      }
+    where
+      low : (f : ℕ) (b : Bool) → leb f 10 ≡ b → b || leb 128 f ≡ true → f < 128 → f ≤ 10
+      low f true p k c = leb-true f 10 p
+      low f false p k c = absurd (omega (arith, leb-true 128 f k))
+
+  pub parts-all : PartsHold n minor a o s → All (outlineRules n minor a o s)
+  unfolding outlineRules headerRules partRules vlrRules pointRule
+  parts-all h =
+      let f = o .«point_data_record_format» in (
+        le-leb _ _ (h .header-size),
+        (
+          rw (le-leb f 10 (h .format)),
+          (
+            lt-ltb f 128 (omega (arith, h .format)),
+            (
+              le-leb _ _ (h .format-for-version),
+              (
+                le-leb _ _ (h .record-length),
+                (
+                  le-leb _ _ (h .offset-after-header),
+                  (
+                    le-leb _ _ (h .offset-within),
+                    all-append (recordRules false a 0 (o .«number_of_variable_length_records») (vlrBytes o s)) _ (records-all false a 0 (o .«number_of_variable_length_records») (vlrBytes o s) (omega (arith, h .allowed)) (h .vlrs-whole))
+                        (le-leb _ _ (h .points-within), evlrs-all (record { allowed = h .allowed; start = h .evlr-start; whole = h .evlrs-whole })),
+                  ),
+                ),
+              ),
+            ),
+          ),
+        ),
+      )
+
+-- the list of rules holds exactly where the conjunction does
+pub rules-hold : (a : ℕ) (s : List ℕ) → All (rulesOf a s) → Holds a s
+unfolding rulesOf readable standardSize
+rules-hold a s = go (judged s) refl
+  where
+    go : (j : HeaderAnswer) → judged s ≡ j → All (readable j ++ outlineRules (standardSize j) (readOf s .header .version .minor) a (outlineOf (readOf s .header)) s) → Holds a s
+    go (answer.Whole n e) p all = record { block = n; end = e; header = p; parts = parts-hold n _ a _ s all }
+    go (answer.Refused r) p (false-holds, later) = absurd (subst T (sym false-holds) tt)
+
+pub rules-all : (a : ℕ) (s : List ℕ) → Holds a s → All (rulesOf a s)
+unfolding rulesOf readable standardSize
+rules-all a s h = rw (h .header) (parts-all _ _ a _ s (h .parts))

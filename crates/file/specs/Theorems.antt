@@ -1,0 +1,34 @@
+-- What the file check's definition adds up to: document 01, "When a file is accepted".
+use Prim.Native.Nat.{ℕ, _*_, _≤_}
+use mathlib.Core.Path.{_≡_, sym}
+use mathlib.Core.List.{List}
+use lib.ListN.{length}
+use Rattle.refusal.specs.declared.Refusal.{Refusal}
+use Rattle.header.specs.Judged.{readOf}
+use Rattle.outline.specs.Outline.{outlineOf}
+use Rattle.file.specs.declared.Checked.the-variants.{Accepted, Refused}
+use Rattle.file.specs.Rules.{recordsOf, rulesOf, checkedOf}
+use Rattle.file.specs.Laws.{FirstFailing, all-hold, accepted-all, first-failing}
+use Rattle.file.specs.Holds.{Holds, rules-hold, rules-all}
+use Rattle.file.specs.Counts.{foundOf, count-fits}
+
+module _ (allowance : ℕ) (s : List ℕ) where
+  -- "All sums are exact": a file is accepted exactly where rules 1 to 8 hold together, and then all its records were found whole.
+  pub accepted-holds : {n : ℕ} → checkedOf allowance s ≡ Accepted n → Holds allowance s × (n ≡ recordsOf (outlineOf (readOf s .header)))
+  unfolding checkedOf
+  accepted-holds p = let a = accepted-all (rulesOf allowance s) p in (rules-hold allowance s (a .0), sym (a .1))
+
+  pub holds-accepted : Holds allowance s → checkedOf allowance s ≡ Accepted (recordsOf (outlineOf (readOf s .header)))
+  unfolding checkedOf
+  holds-accepted h = all-hold (rulesOf allowance s) _ (rules-all allowance s h)
+
+  -- "The answer, yes or no, carries the number of records found whole before it; this is at most the allowance, and 54 times it is
+  -- at most the file length."
+  pub count : (foundOf (checkedOf allowance s) ≤ allowance) × (54 * foundOf (checkedOf allowance s) ≤ length s)
+  count = count-fits allowance s
+
+  -- "Checked in this order; the first that fails is the answer": where a file is refused, the list of rules has one that fails and is
+  -- the answer, and all before it hold.
+  pub refused-first-failing : {r : Refusal} {k n : ℕ} → checkedOf allowance s ≡ Refused r k n → FirstFailing (rulesOf allowance s) (Refused r k n)
+  unfolding checkedOf
+  refused-first-failing p = first-failing (rulesOf allowance s) _ p
