@@ -1,23 +1,23 @@
 -- Parts that are laid out as the rules say cover the file, and are what the first cursor has to tell.
 use Prim.Native.Nat.{ℕ, zero, suc, _+_, _-_, _≤_}
-use mathlib.Core.Path.{_≡_, refl, ap, sym, subst, _∙_}
+use mathlib.Core.Path.{_≡_, refl, ap, sym, subst}
 use mathlib.Core.Bool.{Bool, true, false, cond}
 use mathlib.Core.List.{List, [], _∷_, _++_, append-nil}
 use native.Mathlib.Nat.{zero-add}
 use native.Mathlib.Omega.{arith}
-use borrow.Author.Tests.{ltb-true, ltb-false}
+use borrow.Author.Tests.{ltb-false}
 use lib.Dec.{ltb}
-use lib.ListN.{length, take, drop}
+use lib.ListN.{length, drop}
 use lib.Seq.{take-add, drop-drop}
-use Rattle.vlr.specs.Vlr.{recordSize, extentOf}
-use Rattle.vlr.specs.Laws.{Whole, takes}
+use Rattle.vlr.specs.Vlr.{recordSize}
+use Rattle.vlr.specs.Laws.{takes}
 use Rattle.outline.specs.declared.Outline.{Outline}
 use Rattle.file.specs.Rules.{pointsEnd}
 use Rattle.cursor.specs.declared.Kind.{Kind}
 use Rattle.cursor.specs.declared.Kind.the-variants as kind
 use Rattle.cursor.specs.declared.Part.{Part}
-use Rattle.cursor.specs.Parts.{part, gap, between, recordParts, evlrsStart, partsOf, Records, Laid, Covers, bytesOf, joined}
-use Rattle.cursor.specs.Cursor.{planOf, firstOf, whenBytes, recordsFrom, evlrsFrom, endFrom, pointsFrom, vlrsFrom, leftOf}
+use Rattle.cursor.specs.Parts.{part, gap, between, recordParts, evlrsStart, partsOf, Records, Laid, Covers, joined}
+use Rattle.cursor.specs.Cursor.{planOf, firstOf, recordsFrom, evlrsFrom, endFrom, pointsFrom, vlrsFrom, leftOf}
 use Rattle.cursor.specs.Laws.{between-short, drop-between}
 
 covers-both : (from mid to : ℕ) (ps qs : List Part) → Covers from mid ps → Covers mid to qs → Covers from to (ps ++ qs)

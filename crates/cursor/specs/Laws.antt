@@ -12,8 +12,8 @@ use lib.Seq.{take-nil, drop-drop}
 use Rattle.vlr.specs.declared.Extent.{Extent}
 use Rattle.vlr.specs.declared.Extent.the-variants as extent
 use Rattle.vlr.specs.Layout.{headSize}
-use Rattle.vlr.specs.Vlr.{recordSize, extentOf}
-use Rattle.vlr.specs.Laws.{Whole, accepted}
+use Rattle.vlr.specs.Vlr.{extentOf}
+use Rattle.vlr.specs.Laws.{accepted}
 use Rattle.cursor.specs.declared.Kind.{Kind}
 use Rattle.cursor.specs.declared.Kind.the-variants as kind
 use Rattle.cursor.specs.declared.Part.{Part}

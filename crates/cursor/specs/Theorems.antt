@@ -1,19 +1,20 @@
 -- What is promised of the parts of an accepted file.
 use Prim.Native.Nat.{ℕ, zero, suc}
 use mathlib.Core.Path.{_≡_, refl, sym, ap, _∙_}
-use mathlib.Core.Bool.{Bool, true, false, cond}
+use mathlib.Core.Bool.{Bool, true, false}
 use mathlib.Core.List.{List, [], _∷_}
 use native.Mathlib.Nat.{sub-zero}
 use lib.ListN.{length, take}
 use lib.Seq.{take-length}
+use Rattle.vlr.specs.Vlr.{recordSize}
 use Rattle.file.specs.declared.Checked.the-variants as checked
-use Rattle.file.specs.Rules.{checkedOf}
+use Rattle.file.specs.Rules.{pointsEnd, checkedOf}
+use Rattle.cursor.specs.declared.Kind.the-variants.{Header, Vlr, Gap, Points}
 use Rattle.cursor.specs.declared.Part.{Part}
 use Rattle.cursor.specs.declared.Cursor.{Cursor}
-use Rattle.cursor.specs.declared.Step.{Step}
 use Rattle.cursor.specs.declared.Started.the-variants as started
-use Rattle.cursor.specs.Parts.{outlineIn, partsOf, Covers, joined}
-use Rattle.cursor.specs.Cursor.{planOf, firstOf, startedBy, startedOf, stepOf, leftOf, toldBy}
+use Rattle.cursor.specs.Parts.{part, gap, between, recordParts, outlineIn, evlrsStart, partsOf, Covers, joined}
+use Rattle.cursor.specs.Cursor.{planOf, firstOf, startedOf, stepOf, leftOf, toldBy}
 use Rattle.cursor.specs.Laws.{left-step}
 use Rattle.cursor.specs.Stays.{stays}
 use Rattle.cursor.specs.Accepted.{laid}
@@ -55,3 +56,10 @@ module _ (allowance : ℕ) (s : List ℕ) {n : ℕ} (accepted : checkedOf allowa
 -- after the last part there is none, for ever
 pub none-for-ever : (s : List ℕ) (c : Cursor) → stepOf s c .has ≡ false → stepOf s (stepOf s c .next) ≡ stepOf s c
 none-for-ever = stays
+
+-- document 01's example: "version 1.2, header size 227, one VLR with 4 data bytes, point offset 287, format 0, two points, 327 bytes"
+pub worked : (s : List ℕ) → length s ≡ 327 → recordSize false (between 227 287 s) ≡ 58
+    → partsOf (record { «header_size» = 227; «offset_to_point_data» = 287; «number_of_variable_length_records» = 1; «point_data_record_format» = 0; «point_data_record_length» = 20; «number_of_point_records» = 2; «start_of_first_evlr» = 0; «number_of_evlrs» = 0 }) s
+    ≡ part Header 0 227 ∷ part Vlr 227 58 ∷ part Gap 285 2 ∷ part Points 287 40 ∷ []
+unfolding partsOf recordParts gap pointsEnd evlrsStart
+worked s l r = rw (r, l)

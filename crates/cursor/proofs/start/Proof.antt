@@ -1,11 +1,9 @@
-use Prim.Native.Nat.{_<_, _^_}
 use mathlib.Core.Path.{_≡_, ap, sym, _∙_}
 use borrow.Author.Needs.{needs}
 use native.Mathlib.Omega.{arith}
 use Rattle.header.specs.declared.HeaderRead.{HeaderRead}
 use Rattle.outline.specs.declared.Outline.{Outline}
 use Rattle.outline.specs.Outline.{outlineOf}
-use Rattle.file.specs.Rules.{pointsEnd}
 use Rattle.cursor.specs.declared.Started.the-variants as started
 use Rattle.cursor.specs.Parts.{outlineIn}
 use Rattle.cursor.specs.Cursor.{planOf, firstOf, startedOf}

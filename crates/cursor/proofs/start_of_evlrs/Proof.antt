@@ -1,5 +1,3 @@
-use mathlib.Core.Path.{refl}
-use borrow.Author.Needs.{needs}
 use borrow.Author.Tests.{eq-eqb, ne-eqb}
 use Rattle.cursor.specs.Parts.{evlrsStart}
 use Rattle.cursor.proofs.start_of_evlrs.Statement.{statement}
