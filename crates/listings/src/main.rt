@@ -14,7 +14,7 @@ fn main() {
 // Lists the files of a slice.
 fn list_all(files: &[u8]) {
     let mut at: usize = 0;
-    while files.len() - at > 4 {
+    while files.len() - at >= 4 {
         let end = end_of(files, at);
         listing::list(&files[at + 4..end]);
         at = end;
