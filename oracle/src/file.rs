@@ -467,7 +467,7 @@ pub fn compare_stand_ins() -> Report {
 
 /// A 1.2 file of format 0 without padding: zeros but for its header and its first
 /// VLR's length.
-fn plain(size: usize, vlrs: u8, point_offset: u16, points: u8) -> Vec<u8> {
+pub fn plain(size: usize, vlrs: u8, point_offset: u16, points: u8) -> Vec<u8> {
     let mut file = vec![0; size];
     file[..4].copy_from_slice(b"LASF");
     file[24..26].copy_from_slice(&[1, 2]);

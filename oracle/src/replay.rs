@@ -98,7 +98,7 @@ pub(crate) fn keep(
         for (path, fresh) in files {
             let kept = fs::read(&path);
             report.check(kept.is_ok_and(|kept| kept == fresh), || {
-                format!("{} is not what the Rust answers", path.display())
+                format!("{} is not what was made afresh", path.display())
             });
         }
         tally.aside(report);
