@@ -1,4 +1,4 @@
--- The rows of the file check and the walker, and a walker's place as seven numbers, both ways.
+-- The rows of the file check, the walker and rewriting, and a walker's place as seven numbers, both ways.
 use Prim.Native.Nat.{ℕ, _%_}
 use mathlib.Core.Bool.{cond}
 use mathlib.Core.List.{List, [], _∷_}
@@ -17,6 +17,8 @@ use Rattle.walker.specs.declared.Walked.{Walked}
 use Rattle.walker.specs.declared.Walked.the-variants as walked
 use Rattle.walker.specs.declared.Took.{Took}
 use Rattle.walker.specs.Walk.{tookOf}
+use Rattle.rewrite.specs.declared.Rewrote.{Rewrote}
+use Rattle.rewrite.specs.declared.Rewrote.the-variants as rewrote
 use Rattle.capi_point.specs.Numbers.{numbersOf}
 
 -- number, value, record number, and the records found whole
@@ -50,3 +52,11 @@ nextRow s n numbers =
     cond (eqb (getD n 4 0) 0)
     (let took = tookOf s (placeFrom n) in tookRow (took .answer) (took .next) numbers)
     (n, getD n 4 0 ∷ getD n 5 0 ∷ getD n 6 0 ∷ [], numbers)
+
+-- a rewriting's row, whose value is the count of bytes, and the destination beside it
+abbrev pub rewroteBy : Rewrote → List ℕ
+rewroteBy (rewrote.Bytes n) = 0 ∷ n ∷ 0 ∷ []
+rewroteBy (rewrote.Refused r k) = refusedRow r k
+
+abbrev pub rewroteRow : Rewrote × List ℕ → List ℕ × List ℕ
+rewroteRow w = (rewroteBy (w .0), w .1)

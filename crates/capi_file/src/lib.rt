@@ -1,12 +1,24 @@
-// Whole files for C and Rust: the file check and the walker. A walker's place crosses the boundary as seven numbers that the
+// Whole files for C and Rust: the file check, the parts, the walker and rewriting. A part crosses the boundary as three numbers,
+// its kind (0 header, 1 VLR, 2 gap, 3 points, 4 EVLR), its first byte and its bytes. A walker's place crosses the boundary as seven numbers that the
 // caller keeps: the format (a format word), the place of the next record, how many records are left, the count, and, where the
 // file check refused, number, value and record number; where it did not, three zeros. Rows are those of the crate words.
 ghost use mathlib.Core.Path.{_≡_};
+ghost use mathlib.Core.List.{_++_};
+ghost use Prim.Native.Nat.{_*_, _≤_};
+ghost use lib.ListN.{length, drop};
 ghost use Rattle.file.specs.Rules.{checkedOf};
+ghost use Rattle.cursor.specs.Cursor.{leftOf, startedOf};
+ghost use Rattle.rewrite.specs.Rewritten.{rewrittenOf};
 ghost use Rattle.walker.specs.Begin.{beginOf};
-ghost use Rattle.capi_file.specs.Rows.{checkedRow, startRow, placeNumbers, placeFrom, nextRow};
+ghost use Rattle.capi_file.specs.Rows.{checkedRow, startRow, placeNumbers, placeFrom, nextRow, rewroteRow};
+ghost use Rattle.capi_file.specs.Parts.{kindNumber, numbersOf, partsRow};
+use cursor::Cursor;
+use cursor::Kind;
+use cursor::Started;
 use file::Checked;
+use refusal::Refusal;
 use refusal::Row;
+use rewrite::Rewrote;
 use walker::Place;
 use walker::Start;
 use walker::Walked;
@@ -26,6 +38,37 @@ pub extern "C" fn las_file_check(file: &[u8], allowance: u64, row: &mut [u64; 4]
             let told = refusal.row(record);
             *row = [told.number as u64, told.value, told.record, records];
         }
+    }
+}
+
+// The parts of the file, three numbers each, to the front of the table; the row's value is how many parts there are. Refused with
+// 22 and the parts wanted where the table has no three numbers for each; a refusal leaves the table.
+#[no_mangle]
+pub extern "C" fn las_file_parts(file: &[u8], allowance: u64, table: &mut [u64], row: &mut [u64; 3])
+    ensures { λ _. ⌜ (now (row .exit), now (table .exit)) ≡ partsRow (now (file .entry)) (now (table .entry)) (startedOf allowance (now (file .entry))) ⌝ }
+{
+    match cursor::start(file, allowance) {
+        Started::At(c) => {
+            let wanted = parts::count(file, c);
+            if table.len() / 3 < wanted {
+                words::refuse(row, Refusal::NoRoom(wanted as u64), 0);
+                return;
+            }
+            fill(file, c, table);
+            words::tell(row, 0, wanted as u64, 0)
+        }
+        Started::Refused { refusal, record } => words::refuse(row, refusal, record),
+    }
+}
+
+// Rewrites the file to the front of dst; the row's value is the count of bytes, the file's length.
+#[no_mangle]
+pub extern "C" fn las_file_rewrite(file: &[u8], allowance: u64, dst: &mut [u8], row: &mut [u64; 3])
+    ensures { λ _. ⌜ (now (row .exit), now (dst .exit)) ≡ rewroteRow (rewrittenOf allowance (now (file .entry)) (now (dst .entry))) ⌝ }
+{
+    match rewrite::rewrite(file, allowance, dst) {
+        Rewrote::Bytes(n) => words::tell(row, 0, n as u64, 0),
+        Rewrote::Refused { refusal, record } => words::refuse(row, refusal, record),
     }
 }
 
@@ -62,6 +105,37 @@ pub extern "C" fn las_file_next(
             words::tell(row, 0, 0, 0)
         }
         Walked::Refused { refusal, record } => words::refuse(row, refusal, record),
+    }
+}
+
+// The parts from the cursor on, three numbers each, one after the other.
+fn fill(file: &[u8], c: Cursor, table: &mut [u64])
+    requires { ⌜ 3 * length (leftOf (now file) c) ≤ length (now table) ⌝ }
+    ensures { λ _. ⌜ now (table .exit) ≡ numbersOf (leftOf (now (file .entry)) c) ++ drop (3 * length (leftOf (now (file .entry)) c)) (now (table .entry)) ⌝ }
+{
+    let mut at: usize = 0;
+    let mut step = cursor::next(file, c);
+    while step.has {
+        let part = step.part;
+        let kind = part.kind;
+        table[at] = kind_number(kind);
+        table[at + 1] = part.start;
+        table[at + 2] = part.length;
+        at += 3;
+        step = cursor::next(file, step.next);
+    }
+}
+
+// A kind's number.
+fn kind_number(kind: Kind) -> u64
+    ensures { λ r. ⌜ r ≡ kindNumber kind ⌝ }
+{
+    match kind {
+        Kind::Header => 0,
+        Kind::Vlr => 1,
+        Kind::Gap => 2,
+        Kind::Points => 3,
+        Kind::Evlr => 4,
     }
 }
 

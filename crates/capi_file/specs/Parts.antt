@@ -1,0 +1,36 @@
+-- The parts of a file as numbers: document 01, "a lent table of part entries (kind, start, length)".
+use Prim.Native.Nat.{ℕ, _*_}
+use mathlib.Core.Bool.{cond}
+use mathlib.Core.List.{List, [], _∷_, _++_}
+use lib.Dec.{ltb}
+use lib.ListN.{length, drop}
+use Rattle.refusal.specs.declared.Refusal.the-variants.{NoRoom}
+use Rattle.words.specs.Rows.{refusedRow}
+use Rattle.cursor.specs.declared.Kind.{Kind}
+use Rattle.cursor.specs.declared.Kind.the-variants as kind
+use Rattle.cursor.specs.declared.Part.{Part}
+use Rattle.cursor.specs.declared.Started.{Started}
+use Rattle.cursor.specs.declared.Started.the-variants as started
+use Rattle.cursor.specs.Cursor.{leftOf}
+
+abbrev pub kindNumber : Kind → ℕ
+kindNumber kind.Header = 0
+kindNumber kind.Vlr = 1
+kindNumber kind.Gap = 2
+kindNumber kind.Points = 3
+kindNumber kind.Evlr = 4
+
+-- three numbers for each part
+unfoldable pub numbersOf : List Part → List ℕ
+numbersOf [] = []
+numbersOf (p ∷ ps) = kindNumber (p .kind) ∷ p .start ∷ p .length ∷ numbersOf ps
+
+-- the row and the table d: 22 with the parts wanted where d is too short, and what lies past the last part stays
+unfoldable pub tableRow : List Part → List ℕ → List ℕ × List ℕ
+tableRow ps d =
+    cond (ltb (length d) (3 * length ps)) (refusedRow (NoRoom (length ps)) 0, d)
+    (0 ∷ length ps ∷ 0 ∷ [], numbersOf ps ++ drop (3 * length ps) d)
+
+abbrev pub partsRow : List ℕ → List ℕ → Started → List ℕ × List ℕ
+partsRow s d (started.At c) = tableRow (leftOf s c) d
+partsRow s d (started.Refused r k) = (refusedRow r k, d)

@@ -1,0 +1,106 @@
+-- A turn of a loop that lays one piece after the other into the rest of the destination.
+use Prim.Native.Nat.{ℕ, zero, suc, _+_, _-_, _*_, _≤_, _<_}
+use mathlib.Core.Path.{_≡_, refl, ap, sym, _∙_}
+use mathlib.Core.Bool.{Bool, true, false, cond, not}
+use mathlib.Core.List.{List, [], _∷_, _++_}
+use native.Mathlib.Nat.{suc-mul}
+use native.Mathlib.Omega.{arith}
+use lib.ListN.{length, take, drop, length-drop, length-take}
+use lib.Seq.{sets, drop-drop, length-take-le}
+use Rattle.le.specs.Le.{Bytes}
+use Rattle.lent.specs.declared.Wrote.the-variants as wrote
+use Rattle.lent.specs.Front.{frontOf}
+use Rattle.lent.specs.Laws.{front, turn}
+use Rattle.format.specs.declared.Format.{Format}
+use Rattle.format.specs.declared.FormatLen.the-variants as len
+use Rattle.format.specs.Fields.{lenOf}
+use Rattle.header.specs.Window.{bytes-take}
+use Rattle.outline.specs.declared.Outline.{Outline}
+use Rattle.cursor.specs.declared.Part.{Part}
+use Rattle.cursor.specs.declared.Cursor.{Cursor}
+use Rattle.cursor.specs.declared.Step.{Step}
+use Rattle.cursor.specs.Parts.{bytesOf}
+use Rattle.cursor.specs.Cursor.{stepOf, leftOf, toldBy}
+use Rattle.cursor.specs.Laws.{left-step}
+use Rattle.rewrite.specs.Back.{pointBack, pointsBack, partBack}
+use Rattle.rewrite.specs.Rewritten.{backOf}
+use Rattle.rewrite.specs.Asked.{PointPart, PartIs, At}
+use Rattle.rewrite.specs.Whole.{length-part, length-back}
+use Rattle.rewrite.specs.Laws.{bytes-drop, point-same}
+
+-- a piece of n bytes laid at `at`: the whole keeps its length, and what is still to come makes the same of it
+pub laid-turn : (d bs rest ys : List ℕ) (at n : ℕ) {w : List ℕ} → length bs ≡ n → at + n ≤ length d → ys ≡ bs ++ drop n (take (length d - at) (drop at d)) → sets d at (bs ++ rest) ≡ w → (length (take at d ++ (ys ++ drop (length d - at) (drop at d))) ≡ length d) × (sets (take at d ++ (ys ++ drop (length d - at) (drop at d))) (at + n) rest ≡ w)
+laid-turn d bs rest ys at n size room laid all =
+    let fits : length bs ≤ length (take (length d - at) (drop at d)) = simp (length-take, length-drop) (omega arith) in
+    let put : (wrote.Bytes (length bs), ys) ≡ frontOf bs (take (length d - at) (drop at d)) = rw (laid, ← size) (sym (front bs _ fits)) in
+    rw (← size) (turn d bs rest ys at (wrote.Bytes (length bs)) (omega arith) put all)
+
+-- the last record but `left - 1`
+pub less-one : (left m : ℕ) → 0 < left → left * m ≡ m + (left - 1) * m
+less-one zero m h = absurd (omega arith)
+less-one (suc k) m h =
+    let e : suc k - 1 ≡ k = omega arith in
+    rw (e, suc-mul) (omega arith)
+
+module _ (f : Format) (m : ℕ) (s : List ℕ) (long : lenOf f ≡ len.Is m) (at left : ℕ) (more : 0 < left) (ends : at + left * m ≡ length s) where
+  abbrev pub record-at : List ℕ
+  record-at = take (at + m - at) (drop at s)
+
+  pub record-length : length record-at ≡ m
+  record-length =
+      let e : at + m - at ≡ m = omega arith in
+      rw e (length-take-le m (drop at s) (simp length-drop (omega (arith, less-one left m more))))
+
+  pub record-whole : PointPart f record-at
+  record-whole = rw record-length long
+
+  step : (k : ℕ) → left ≡ suc k → pointsBack f m left (drop at s) ≡ pointBack f record-at ++ pointsBack f m (left - 1) (drop (at + m) s)
+  unfolding pointsBack
+  step k e =
+      let one : suc k - 1 ≡ k = omega arith in
+      let cut : at + m - at ≡ m = omega arith in
+      rw (e, one, cut, drop-drop m at s)
+
+  pub points-turn : (d ys : List ℕ) {w : List ℕ} → length s ≤ length d → Bytes s → ys ≡ pointBack f record-at ++ drop (length record-at) (take (length d - at) (drop at d)) → sets d at (pointsBack f m left (drop at s)) ≡ w → (length (take at d ++ (ys ++ drop (length d - at) (drop at d))) ≡ length d) × (sets (take at d ++ (ys ++ drop (length d - at) (drop at d))) (at + m) (pointsBack f m (left - 1) (drop (at + m) s)) ≡ w)
+  points-turn d ys room bytes laid all =
+      let same : pointBack f record-at ≡ record-at = point-same f record-at record-whole (bytes-take (at + m - at) (drop at s) (bytes-drop at s bytes)) in
+      laid-turn d (pointBack f record-at) (pointsBack f m (left - 1) (drop (at + m) s)) ys at m (ap length same ∙ record-length) (omega (arith, less-one left m more)) (rw record-length at laid)
+      (sym (ap (sets d at) (step (left - 1) (omega arith))) ∙ all)
+
+-- a part of the file, as it is cut and laid
+module _ (o : Outline) (s : List ℕ) (bytes : Bytes s) (at : ℕ) (p : Part) (a : At o s at p) where
+  abbrev cut : List ℕ
+  cut = take (p .start + p .length - p .start) (drop (p .start) s)
+
+  cut-is : cut ≡ bytesOf s p
+  cut-is = let e : p .start + p .length - p .start ≡ p .length = omega arith in rw e
+
+  pub cut-length : length cut ≡ p .length
+  cut-length = ap length cut-is ∙ length-part o s bytes at p a
+
+  pub cut-whole : PartIs o (p .kind) cut
+  cut-whole = rw cut-is (a .whole)
+
+  pub part-turn : (ps : List Part) (d ys : List ℕ) {w : List ℕ} → length s ≤ length d → ys ≡ partBack o (p .kind) cut ++ drop (length cut) (take (length d - p .start) (drop (p .start) d)) → sets d at (backOf o s (p ∷ ps)) ≡ w → (length (take (p .start) d ++ (ys ++ drop (length d - p .start) (drop (p .start) d))) ≡ length d) × (sets (take (p .start) d ++ (ys ++ drop (length d - p .start) (drop (p .start) d))) (at + p .length) (backOf o s ps) ≡ w)
+  unfolding backOf
+  part-turn ps d ys room laid all =
+      let back = partBack o (p .kind) (bytesOf s p) in
+      let fits : p .start + p .length ≤ length d = omega (arith, a .start, a .ends) in
+      let here = ap (λ (k : ℕ). sets d k (back ++ backOf o s ps)) (a .start) ∙ all in
+      let t = laid-turn d back (backOf o s ps) ys (p .start) (p .length) (length-back o s bytes at p a) fits (rw (cut-length, cut-is) at laid) here in
+      (t .0, ap (λ (k : ℕ). sets (take (p .start) d ++ (ys ++ drop (length d - p .start) (drop (p .start) d))) (k + p .length) (backOf o s ps)) (sym (a .start)) ∙ t .1)
+
+not-not : (b : Bool) → not (not b) ≡ b
+not-not true = refl
+not-not false = refl
+
+-- what a step tells of the parts that are left
+module _ (s : List ℕ) (c : Cursor) (r : Step) (e : r ≡ stepOf s c) where
+  told : leftOf s c ≡ cond (r .has) (r .part ∷ leftOf s (r .next)) []
+  told = left-step s c ∙ ap (toldBy (leftOf s)) (sym e)
+
+  pub first-left : not (r .has) ≡ false → leftOf s c ≡ r .part ∷ leftOf s (r .next)
+  first-left has = told ∙ ap (λ (b : Bool). cond b (r .part ∷ leftOf s (r .next)) []) (sym (not-not (r .has)) ∙ ap not has)
+
+  pub none-left : not (r .has) ≡ true → leftOf s c ≡ []
+  none-left has = told ∙ ap (λ (b : Bool). cond b (r .part ∷ leftOf s (r .next)) []) (sym (not-not (r .has)) ∙ ap not has)

@@ -1,0 +1,57 @@
+-- What the private steps ask of the bytes that they are given: each is a whole part of its kind.
+use Prim.Native.Nat.{ℕ, _+_, _*_, _≤_, _<_}
+use mathlib.Core.Path.{_≡_}
+use mathlib.Core.Bool.{Bool, true, false}
+use mathlib.Core.List.{List, [], _∷_}
+use lib.ListN.{length}
+use Rattle.format.specs.declared.Format.{Format}
+use Rattle.format.specs.declared.FormatLen.the-variants.{Is}
+use Rattle.format.specs.Fields.{lenOf}
+use Rattle.vlr.specs.declared.Extent.the-variants.{Bytes}
+use Rattle.vlr.specs.Vlr.{readOf}
+use Rattle.header.specs.declared.HeaderAnswer.the-variants.{Whole}
+use Rattle.header.specs.Judged.{judged}
+use Rattle.outline.specs.declared.Outline.{Outline}
+use Rattle.file.specs.Rules.{formatBytes}
+use Rattle.cursor.specs.declared.Part.{Part}
+use Rattle.cursor.specs.declared.Kind.{Kind}
+use Rattle.cursor.specs.declared.Kind.the-variants.{Header, Vlr, Gap, Points, Evlr}
+use Rattle.cursor.specs.Parts.{bytesOf}
+
+-- a header with its padding; a VLR or an EVLR with its data
+abbrev pub HeaderPart : List ℕ → Type 0
+HeaderPart s = (n : ℕ) × (judged s ≡ Whole n (length s))
+
+abbrev pub VlrPart : Bool → List ℕ → Type 0
+VlrPart extended s = readOf extended s .answer ≡ Bytes (length s)
+
+-- a point record, and k of them of m bytes
+abbrev pub PointPart : Format → List ℕ → Type 0
+PointPart f s = lenOf f ≡ Is (length s)
+
+abbrev pub PointsPart : Format → ℕ → ℕ → List ℕ → Type 0
+PointsPart f m k s = (lenOf f ≡ Is m) × (length s ≡ k * m)
+
+-- rules 3 and 4: there is a format, and a record is no shorter than the format's
+pub record HasFormat (o : Outline) : Type 0 where
+  pub known : o .«point_data_record_format» < 11
+  pub long : formatBytes (o .«point_data_record_format») ≤ o .«point_data_record_length»
+  pub fits : o .«point_data_record_length» ≤ 65535
+
+unfoldable pub PartIs : Outline → Kind → List ℕ → Type 0
+PartIs o Header s = HeaderPart s
+PartIs o Vlr s = VlrPart false s
+PartIs o Gap s = Unit
+PartIs o Points s = HasFormat o × (length s ≡ o .«number_of_point_records» * o .«point_data_record_length»)
+PartIs o Evlr s = VlrPart true s
+
+-- a part that begins at a place, ends in the file, and is whole
+pub record At (o : Outline) (s : List ℕ) (at : ℕ) (p : Part) : Type 0 where
+  pub start : p .start ≡ at
+  pub ends : at + p .length ≤ length s
+  pub whole : PartIs o (p .kind) (bytesOf s p)
+
+-- parts from one place to another, each beginning where the one before it ends
+abbrev pub Tiles : Outline → List ℕ → ℕ → List Part → ℕ → Type 0
+Tiles o s at [] end = at ≡ end
+Tiles o s at (p ∷ ps) end = At o s at p × Tiles o s (at + p .length) ps end

@@ -1,0 +1,111 @@
+-- Of bytes, what stands for a part is the part itself, but for the header's EVLR pair.
+use Prim.Native.Nat.{ℕ, zero, suc, _+_, _*_, _≤_}
+use mathlib.Core.Path.{_≡_, ap, sym, _∙_}
+use mathlib.Core.Bool.{Bool, true, false}
+use mathlib.Core.Logic.{_⊎_}
+use mathlib.Core.List.{List, _++_}
+use native.Mathlib.Nat.{suc-mul, zero-mul}
+use native.Mathlib.Omega.{arith}
+use borrow.Author.Tests.{le-ltb}
+use lib.ListN.{length, take, drop, replicate, length-drop}
+use lib.Seq.{take-add, take-all, take-length, length-take-le, getD-drop}
+use Rattle.le.specs.Le.{Bytes}
+use Rattle.le.specs.Laws.{num-take}
+use Rattle.format.specs.declared.Format.{Format}
+use Rattle.format.specs.declared.FormatLen.the-variants as len
+use Rattle.format.specs.Fields.{lenOf, recordBytes}
+use Rattle.format.specs.Codes.{coded}
+use Rattle.format.specs.Laws.{record-sum, len-is}
+use Rattle.point.specs.declared.PointRead.the-variants.{Is}
+use Rattle.point.specs.Read.{pointOf, sizedOf, readAfter, readOf, extraOf}
+use Rattle.point_write.specs.Write.{recordOf}
+use Rattle.point_write.specs.Answered.{answered}
+use Rattle.point_write.specs.Theorems.{read-then-written}
+use Rattle.vlr.specs.declared.RecordLength.{RecordLength}
+use Rattle.vlr.specs.declared.RecordLength.the-variants as kind
+use Rattle.vlr.specs.Layout.{headSize}
+use Rattle.vlr.specs.Vlr.{dataLength, lengthOf, recordSize}
+use Rattle.vlr.specs.Vlr as vlr-read
+use Rattle.vlr.specs.Laws as vlr
+use Rattle.vlr.specs.Heads.{record-back}
+use Rattle.header.specs.Layout.{VersionMinor, StartOfFirstEvlr, NumberOfEvlrs}
+use Rattle.header.specs.Header.{number}
+use Rattle.header.specs.Window.{bytes-take}
+use Rattle.header_write.specs.Back.{Paired}
+use Rattle.header_write.specs.Theorems as header
+use Rattle.outline.specs.declared.Outline.{Outline}
+use Rattle.file.specs.Rules.{formatBytes}
+use Rattle.rewrite.specs.Back.{headerBack, vlrBack, pointFormat, pointBy, pointBack, pointsBack}
+use Rattle.rewrite.specs.Asked.{HeaderPart, VlrPart, PointPart, HasFormat, PointsPart}
+
+-- a whole record is read, and what stands for it is the writer's bytes of that point
+module _ (f : Format) (s : List ℕ) (whole : PointPart f s) where
+  pub point-read : readOf f s ≡ Is (pointOf f s)
+  unfolding readOf sizedOf
+  point-read = ap (readAfter f s) whole ∙ rw (le-ltb (length s) (length s) (omega arith))
+
+  pub point-same : Bytes s → pointBack f s ≡ s
+  unfolding pointBack
+  point-same bytes =
+      let size : length s ≡ recordBytes f = len-is f (length s) whole in
+      let a = answered f s (pointOf f s) point-read in
+      ap (pointBy f (extraOf f s)) point-read
+      ∙ ap (recordOf f (pointOf f s)) (a .extra)
+      ∙ read-then-written f s bytes (a .room)
+      ∙ take-all (recordBytes f) s (omega arith)
+
+pub bytes-drop : (n : ℕ) (s : List ℕ) → Bytes s → Bytes (drop n s)
+bytes-drop n s bytes k = rw getD-drop (bytes (n + k))
+
+pub points-same : (f : Format) (m k : ℕ) (s : List ℕ) → lenOf f ≡ len.Is m → k * m ≤ length s → Bytes s → pointsBack f m k s ≡ take (k * m) s
+unfolding pointsBack
+points-same f m zero s long h bytes = rw zero-mul
+points-same f m (suc k) s long h bytes =
+    let more : suc k * m ≡ m + k * m = suc-mul k m ∙ omega arith in
+    let size : length (take m s) ≡ m = length-take-le m s (omega arith) in
+    let first : pointBack f (take m s) ≡ take m s = point-same f (take m s) (rw size long) (bytes-take m s bytes) in
+    let rest : pointsBack f m k (drop m s) ≡ take (k * m) (drop m s) = points-same f m k (drop m s) long (simp length-drop (omega arith)) (bytes-drop m s bytes) in
+    rw (first, rest, more, take-add)
+
+-- a record of the file's format has the header's record length
+pub format-length : (o : Outline) → HasFormat o → lenOf (pointFormat o) ≡ len.Is (o .«point_data_record_length»)
+unfolding pointFormat coded formatBytes lenOf
+format-length o has =
+    let f = coded (o .«point_data_record_format») false in
+    let size : recordBytes (pointFormat o) ≡ o .«point_data_record_length» = omega (arith, record-sum (pointFormat o), record-sum f, has .long) in
+    rw (size, le-ltb 65535 (o .«point_data_record_length») (has .fits))
+
+-- all the points of a part
+pub part-same : (f : Format) (m k : ℕ) (s : List ℕ) → PointsPart f m k s → Bytes s → pointsBack f m k s ≡ s
+part-same f m k s whole bytes = points-same f m k s (whole .0) (omega (arith, whole .1)) bytes ∙ take-all (k * m) s (omega (arith, whole .1))
+
+-- a record's length stands in its head
+length-cut : (extended : Bool) (s : List ℕ) (n : ℕ) → headSize extended ≤ n → lengthOf extended (take n s) ≡ lengthOf extended s
+length-cut true s n h = ap kind.Evlr (num-take 8 20 s n (omega arith))
+length-cut false s n h = ap kind.Vlr (num-take 2 20 s n (omega arith))
+
+pub vlr-same : (extended : Bool) (s : List ℕ) → VlrPart extended s → Bytes s → vlrBack extended s ≡ s
+unfolding vlrBack
+vlr-same extended s whole bytes =
+    let w = vlr.read-accepted extended s whole in
+    let r = vlr.read-whole extended s (length s) w in
+    rw (r .0, r .1) (record-back extended s (length s) bytes w ∙ take-length s)
+
+-- a record that ends in the bytes, cut from them, is whole
+pub record-whole : (extended : Bool) (s : List ℕ) → recordSize extended s ≤ length s → VlrPart extended (take (recordSize extended s) s)
+unfolding recordSize vlr-read.readOf
+record-whole extended s h =
+    let n = headSize extended + dataLength (lengthOf extended s) in
+    let long : length (take n s) ≡ n = length-take-le n s h in
+    rw long (vlr.takes extended (take n s) n (record { size = ap (λ (l : RecordLength). headSize extended + dataLength l) (sym (length-cut extended s n (omega arith))); there = omega arith }))
+
+-- the header, by its EVLR pair
+module _ (s : List ℕ) (whole : HeaderPart s) (bytes : Bytes s) where
+  pub header-same : (number VersionMinor s ≡ 4 → Paired (number StartOfFirstEvlr s) (number NumberOfEvlrs s)) → headerBack s ≡ s
+  unfolding headerBack
+  header-same paired = header.same-bytes s bytes (whole .1) paired ∙ take-length s
+
+  pub header-half : number VersionMinor s ≡ 4 → (number StartOfFirstEvlr s ≡ 0) ⊎ (number NumberOfEvlrs s ≡ 0) → headerBack s ≡ take 235 s ++ (replicate 12 0 ++ drop 247 s)
+  unfolding headerBack
+  header-half four half =
+      header.half-zero s bytes (whole .1) four half ∙ ap (λ (l : List ℕ). take 235 l ++ (replicate 12 0 ++ drop 247 l)) (take-length s)
