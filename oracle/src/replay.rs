@@ -74,7 +74,6 @@ pub fn compare(tally: &mut Tally, folder: &Path, write: bool) -> io::Result<()> 
     keep(tally, folder, write, list.stdin, list.stdout)
 }
 
-
 /// Writes a list into its folder, or compares it with what the folder has.
 pub(crate) fn keep(
     tally: &mut Tally,
