@@ -271,8 +271,9 @@ pub fn header_write(header: &HeaderNumbers, padding: &[u8], dst: &mut [u8], row:
     }
 }
 
-/// A walker's place, as the crate `capi_file` keeps it: nothing here looks into it.
-pub type Place = [u64; 8];
+/// A walker's place, as the crate `capi_file` keeps it: the format's word, where the next record is, how
+/// many are left, the count, and number, value and record number where the file was refused.
+pub type Place = [u64; 7];
 
 #[link(name = "capi_file", kind = "static")]
 unsafe extern "C" {

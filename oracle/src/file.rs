@@ -7,9 +7,12 @@ use crate::{
     file_model::{self, Found, Part},
     file_wrong::{ERRORS, StandIn},
     files::{MANY, Patch, Whole},
-    records::Lcg,
+    format::{self, LONGEST},
+    point,
+    records::{self, Lcg, most_extra, record_len},
     report::{Report, Tally, stretches},
 };
+use las::raw::Point;
 use std::array;
 
 /// The calls on files. The port has them, and so have the stand-ins that test the comparison itself.
@@ -360,7 +363,7 @@ impl<'a, L: Library> Comparison<'a, L> {
             0 => self.random.below(lent.file.len() as u64 + 1) as usize,
             _ => lent.file.len(),
         };
-        let mut place = [BEFORE; 8];
+        let mut place = [BEFORE; 7];
         self.library.walker(lent.file, lent.allowance, &mut place);
         self.outcome.answered[27] += u64::from(answer.number == 0);
         let mut past = 0;
@@ -457,7 +460,10 @@ fn compare_with(library: &impl Library, lot: Lot) -> Outcome {
 /// an error put in doesn't, whichever error it is.
 pub fn compare_stand_ins() -> Report {
     let mut report = Report::new("stand-ins with an error, told apart");
-    let agrees = |error| compare_with(&StandIn { error }, FEW).agrees();
+    let agrees = |error| {
+        let library = &StandIn { error };
+        compare_with(library, FEW).agrees() && compare_places(library).agrees()
+    };
     report.check(agrees(None), || "the one without an error differs".into());
     for error in ERRORS {
         report.check(!agrees(Some(error)), || format!("{error:?} isn't seen"));
@@ -467,7 +473,7 @@ pub fn compare_stand_ins() -> Report {
 
 /// A 1.2 file of format 0 without padding: zeros but for its header and its first
 /// VLR's length.
-fn plain(size: usize, vlrs: u8, point_offset: u16, points: u8) -> Vec<u8> {
+pub fn plain(size: usize, vlrs: u8, point_offset: u16, points: u8) -> Vec<u8> {
     let mut file = vec![0; size];
     file[..4].copy_from_slice(b"LASF");
     file[24..26].copy_from_slice(&[1, 2]);
@@ -519,10 +525,84 @@ fn compare_described(library: &impl Library) -> Report {
     report
 }
 
+/// What a step from a place comes to, whatever the place holds: the row, the point and the place after.
+/// "A walker with an overlong format or a next record outside its file answers 27 too, with the count it
+/// holds." A refused one repeats its refusal.
+fn step(file: &[u8], place: Place) -> (Row, Numbers, Place) {
+    let [word, at, left, count, number, value, record] = place;
+    if number != 0 {
+        return ([number, value, record], [BEFORE; 24], place);
+    }
+    // bits that mean nothing are not kept
+    let format = format::format(word as u32);
+    let word = format::word(format);
+    let length = record_len(word);
+    let end = u128::from(at) + length as u128;
+    let stays = [word.into(), at, left, count, 0, 0, 0];
+    if left == 0 || length > LONGEST || end > file.len() as u128 {
+        return ([27, count, 0], [BEFORE; 24], stays);
+    }
+    match Point::read_from(&file[at as usize..], &format) {
+        Ok(point) => {
+            let moved = [word.into(), end as u64, left - 1, count, 0, 0, 0];
+            ([0; 3], point::numbers(&point), moved)
+        }
+        Err(error) => panic!("the Rust does not read a whole record: {error}"),
+    }
+}
+
+/// Compares steps from places that no file check gives, but that a caller can make: every overlong
+/// format, places on both sides of the last record's and where sums wrap, any count, any refusal.
+fn compare_places(library: &impl Library) -> Report {
+    let mut report = Report::new("las_file_next from made places");
+    let mut file = vec![0; 2 * LONGEST];
+    Lcg::new(0).fill(&mut file);
+    let mut compare = |place: Place| {
+        let rules = step(&file, place);
+        let (mut row, mut numbers, mut after) = ([u64::MAX; 3], [BEFORE; 24], place);
+        library.next(&file, &mut after, &mut row, &mut numbers);
+        report.check(rules == (row, numbers, after), || {
+            let (told, _, moved) = rules;
+            format!("{place:?}: {told:?} {moved:?}, port {row:?} {after:?}")
+        });
+    };
+
+    let end = file.len() as u64;
+    for (i, word) in (0..).zip(records::overlong()) {
+        let word = records::with_ignored(word, i).into();
+        for at in [0, 1, end] {
+            compare([word, at, 1 + i, 7 * i, 0, 0, 0]);
+        }
+    }
+    let longest = records::formats(|set| [most_extra(set) - 1, most_extra(set)]);
+    for (i, word) in (0..).zip(records::coded().into_iter().chain(longest)) {
+        let length = record_len(word) as u64;
+        let word = records::with_ignored(word, i).into();
+        let wraps = 0u64.wrapping_sub(length);
+        let near = [end - length, end, wraps].map(|n| [n - 1, n, n + 1]);
+        for &at in near
+            .as_flattened()
+            .iter()
+            .chain(&[0, 1 << 32, 1 << 63, u64::MAX])
+        {
+            for left in [0, 1, 2, u64::MAX] {
+                for count in [0, left, u64::MAX] {
+                    compare([word, at, left, count, 0, 0, 0]);
+                }
+            }
+        }
+        for number in [1, 14, u64::MAX] {
+            compare([word, 0, 1, 1, number, i, !i]);
+        }
+    }
+    report
+}
+
 /// Compares a library and prints what came of it: the calls, the files by the way in which they were
 /// made, and how often each number was answered.
 pub fn compare_library(tally: &mut Tally, library: &impl Library) {
     tally.add(compare_described(library));
+    tally.add(compare_places(library));
     let outcome = compare_with(library, SMALL).and(compare_with(library, LONG));
     for report in outcome.reports {
         tally.add(report);

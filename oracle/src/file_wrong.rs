@@ -7,7 +7,8 @@ use crate::{
     capi::{Numbers, Place, Row},
     file::Library,
     file_model::{EVLR, GAP, HEADER, POINTS, Part, VLR},
-    format, point,
+    format::{self, LONGEST},
+    point,
     records::record_len,
 };
 use las::{point::Format, raw::Point};
@@ -48,6 +49,9 @@ pub enum Error {
     WalkerStartsAgain,
     WalkerAnswersHowManyItGave,
     WalkerReadsPastWhatItIsShown,
+    WalkerLengthIn16Bits,
+    WalkerSumIn64Bits,
+    WalkerRefusalForgotten,
     NumbersClearedAtEnd,
     HalfEvlrPairKept,
     WholeEvlrPairCleared,
@@ -57,7 +61,7 @@ pub enum Error {
 use Error::*;
 
 /// Every error that can be put in.
-pub const ERRORS: [Error; 38] = [
+pub const ERRORS: [Error; 41] = [
     SignatureAfterVersion,
     PaddingNotRead,
     FormatForVersionFirst,
@@ -91,6 +95,9 @@ pub const ERRORS: [Error; 38] = [
     WalkerStartsAgain,
     WalkerAnswersHowManyItGave,
     WalkerReadsPastWhatItIsShown,
+    WalkerLengthIn16Bits,
+    WalkerSumIn64Bits,
+    WalkerRefusalForgotten,
     NumbersClearedAtEnd,
     HalfEvlrPairKept,
     WholeEvlrPairCleared,
@@ -331,8 +338,6 @@ fn format_of(code: u8) -> Format {
     Format::new(code).expect("a format from 0 to 10")
 }
 
-/// A walker's place: number, value and record number of a refusal; the format and the record length;
-/// the count of points, the place of the next and how many have been given.
 impl Library for StandIn {
     fn check(&self, file: &[u8], allowance: u64, row: &mut [u64; 4]) {
         let (sight, answer) = self.judged(file, allowance);
@@ -376,34 +381,49 @@ impl Library for StandIn {
 
     fn walker(&self, file: &[u8], allowance: u64, place: &mut Place) {
         let (sight, answer) = self.judged(file, allowance);
-        let [number, value, record] = answer.err().unwrap_or([0; 3]);
-        *place = [
-            number,
-            value,
-            record,
-            sight.format.into(),
-            sight.length,
-            sight.points,
-            sight.offset,
-            0,
-        ];
+        *place = match answer {
+            Ok(()) => {
+                let code = format::word(format_of(sight.format));
+                let extra = sight.length - record_len(code) as u64;
+                let word = u64::from(code) | extra << 16;
+                [word, sight.offset, sight.points, sight.points, 0, 0, 0]
+            }
+            Err([number, value, record]) => [0, 0, 0, 0, number, value, record],
+        };
     }
 
     fn next(&self, file: &[u8], place: &mut Place, row: &mut Row, numbers: &mut Numbers) {
-        let [number, value, record, code, length, points, at, given] = *place;
-        if number != 0 {
+        let [word, at, left, points, number, value, record] = *place;
+        if number != 0 && !self.has(WalkerRefusalForgotten) {
             *row = [number, value, record];
             return;
         }
-        let shown = at + length <= file.len() as u64 || self.has(WalkerReadsPastWhatItIsShown);
-        if given == points || !shown {
+        let format = format::format(word as u32);
+        place[0] = format::word(format).into();
+        let bare = Format {
+            extra_bytes: 0,
+            ..format
+        };
+        let short = record_len(format::word(bare)) as u64;
+        let length = match short + u64::from(format.extra_bytes) {
+            wraps if self.has(WalkerLengthIn16Bits) => wraps & 0xffff,
+            length => length,
+        };
+        let end = match at.checked_add(length) {
+            None if self.has(WalkerSumIn64Bits) => 0,
+            None => u64::MAX,
+            Some(end) => end,
+        };
+        let shown = end <= file.len() as u64 || self.has(WalkerReadsPastWhatItIsShown);
+        if left == 0 || length > LONGEST as u64 || !shown {
             *row = [27, points, 0];
             if self.has(NumbersClearedAtEnd) {
                 numbers.fill(0);
             }
+            let given = points.wrapping_sub(left);
             if self.has(WalkerStartsAgain) {
-                place[6] -= given * length;
-                place[7] = 0;
+                place[1] = at.wrapping_sub(given.wrapping_mul(length));
+                place[2] = points;
             }
             if self.has(WalkerAnswersHowManyItGave) {
                 *row = [27, given, 0];
@@ -411,17 +431,17 @@ impl Library for StandIn {
             return;
         }
         let step = match self.has(WalkerWithoutExtraBytes) {
-            true => record_len(format::word(format_of(code as u8))) as u64,
+            true => short,
             false => length,
         };
-        let start = (at as usize).min(file.len());
+        let start = file.len().min(at as usize);
         let mut bytes = file[start..].to_vec();
-        bytes.resize(bytes.len().max(length as usize), 0);
-        let point = Point::read_from(&bytes[..], &format_of(code as u8)).expect("a whole record");
+        bytes.resize(bytes.len().max(short as usize), 0);
+        let point = Point::read_from(&bytes[..], &bare).expect("a whole record");
         *numbers = point::numbers(&point);
         *row = [0; 3];
-        place[6] += step;
-        place[7] += 1;
+        place[1] = at.wrapping_add(step);
+        place[2] -= 1;
     }
 
     fn rewrite(&self, file: &[u8], allowance: u64, dst: &mut [u8], row: &mut Row) {

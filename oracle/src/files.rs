@@ -9,7 +9,7 @@ use las::point::Format;
 use std::fmt;
 
 /// Minor version and format, all that go together.
-const KINDS: [(u8, u8); 25] = {
+pub const KINDS: [(u8, u8); 25] = {
     let mut kinds = [(0, 0); 25];
     let (mut k, mut minor) = (0, 0);
     while minor < HIGHEST.len() {
@@ -25,7 +25,7 @@ const KINDS: [(u8, u8); 25] = {
 };
 
 /// The highest format of versions 1.0 to 1.4.
-const HIGHEST: [u8; 5] = [1, 1, 3, 5, 10];
+pub const HIGHEST: [u8; 5] = [1, 1, 3, 5, 10];
 
 /// An allowance that none of these files uses up.
 pub const MANY: u64 = 1_300;

@@ -14,6 +14,7 @@ pub mod files;
 pub mod flags;
 pub mod format;
 pub mod header;
+pub mod listings;
 pub mod point;
 pub mod records;
 pub mod replay;

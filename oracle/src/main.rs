@@ -1,7 +1,7 @@
 //! Runs every comparison and says whether nothing differed.
 
 use oracle::{
-    angle, file, flags, format, header, point, replay, replay_records, report::Tally, vlr,
+    angle, file, flags, format, header, listings, point, replay, replay_records, report::Tally, vlr,
 };
 use std::{env, io, path::Path, process::ExitCode};
 
@@ -17,6 +17,7 @@ fn compare(crates: &Path, write: bool) -> io::Result<bool> {
     file::compare(&mut tally);
     replay::compare(&mut tally, &crates.join("replay"), write)?;
     replay_records::compare(&mut tally, &crates.join("replay_records"), write)?;
+    listings::compare(&mut tally, &crates.join("listings"), write)?;
     Ok(tally.agreed())
 }
 

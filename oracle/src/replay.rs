@@ -74,7 +74,6 @@ pub fn compare(tally: &mut Tally, folder: &Path, write: bool) -> io::Result<()> 
     keep(tally, folder, write, list.stdin, list.stdout)
 }
 
-
 /// Writes a list into its folder, or compares it with what the folder has.
 pub(crate) fn keep(
     tally: &mut Tally,
@@ -98,7 +97,7 @@ pub(crate) fn keep(
         for (path, fresh) in files {
             let kept = fs::read(&path);
             report.check(kept.is_ok_and(|kept| kept == fresh), || {
-                format!("{} is not what the Rust answers", path.display())
+                format!("{} is not what was made afresh", path.display())
             });
         }
         tally.aside(report);
