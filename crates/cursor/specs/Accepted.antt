@@ -2,7 +2,7 @@
 use Prim.Native.Nat.{ℕ, zero, suc, _-_, _≤_}
 use mathlib.Core.Path.{_≡_, refl, sym, subst}
 use mathlib.Core.Bool.{Bool, true, false, cond}
-use mathlib.Core.List.{List, [], _∷_, _++_}
+use mathlib.Core.List.{List, [], _∷_}
 use native.Mathlib.Omega.{arith}
 use borrow.Author.Tests.{leb-true, eqb-true}
 use lib.Dec.{eqb, leb}
@@ -14,11 +14,8 @@ use Rattle.outline.specs.declared.Outline.{Outline}
 use Rattle.file.specs.declared.Checked.the-variants as checked
 use Rattle.file.specs.Rules.{Rule, rule, readable, standardSize, headerRules, recordRules, pointsEnd, vlrBytes, vlrRules, pointRule, evlrRules, partRules, outlineRules, rulesOf, checkedOf}
 use Rattle.file.specs.Laws.{All, accepted-all}
+use Rattle.file.specs.Holds.{all-split}
 use Rattle.cursor.specs.Parts.{between, outlineIn, evlrsStart, Records, Laid}
-
-both : (xs ys : List Rule) → All (xs ++ ys) → All xs × All ys
-both [] ys a = (tt, a)
-both (x ∷ xs) ys (h, a) = let b = both xs ys a in ((h, b .0), b .1)
 
 -- records that keep the rules are all there
 records : (extended : Bool) (allowance n k : ℕ) (rest : List ℕ) → All (recordRules extended allowance n k rest) → Records extended k rest
@@ -59,9 +56,9 @@ pub laid : (allowance : ℕ) (s : List ℕ) {n : ℕ} → checkedOf allowance s 
 unfolding checkedOf rulesOf outlineRules headerRules partRules vlrRules vlrBytes pointRule
 laid allowance s p =
     let o = outlineIn s in
-    let all = both (readable (judged s)) _ (accepted-all _ p .0) .1 in
-    let a = both (headerRules (standardSize (judged s)) (readOf s .header .version .minor) o (length s)) (partRules allowance o s) all in
-    let b = both (vlrRules allowance o s) (pointRule o s ∷ evlrRules allowance o s) (a .1) in
+    let all = all-split (readable (judged s)) _ (accepted-all _ p .0) .1 in
+    let a = all-split (headerRules (standardSize (judged s)) (readOf s .header .version .minor) o (length s)) (partRules allowance o s) all in
+    let b = all-split (vlrRules allowance o s) (pointRule o s ∷ evlrRules allowance o s) (a .1) in
     let c = after-points allowance o s (leb-true _ _ (b .1 .0)) (b .1 .1) in
     record {
       after-header = leb-true _ _ (a .0 .1 .1 .1 .1 .1 .0);

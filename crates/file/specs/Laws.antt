@@ -1,14 +1,15 @@
 -- Laws of the rules.
-use Prim.Native.Nat.{ℕ, zero, suc, _+_, _-_, _≤_, _<_}
+use Prim.Native.Nat.{ℕ, _≤_, _<_}
 use mathlib.Core.Path.{_≡_, refl, sym, ap, subst}
 use mathlib.Core.Bool.{Bool, true, false, cond, _&&_}
 use mathlib.Core.List.{List, [], _∷_, _++_}
 use native.Mathlib.Omega.{arith}
-use borrow.Author.Tests.{lt-ltb, le-ltb}
+use borrow.Author.Tests.{lt-ltb, le-ltb, ltb-true}
 use lib.Dec.{eqb, ltb}
 use lib.ListN.{length}
 use Rattle.refusal.specs.declared.Refusal.{Refusal}
-use Rattle.refusal.specs.declared.Refusal.the-variants.{Version as VersionRefusal}
+use Rattle.refusal.specs.declared.Refusal.the-variants.{Version as VersionRefusal, RecordLength}
+use Rattle.format.specs.declared.Format.{Format}
 use Rattle.format.specs.declared.NewFormat.the-variants as new
 use Rattle.format.specs.declared.FormatLen.the-variants as len
 use Rattle.format.specs.Codes.{coded, formatOf}
@@ -22,7 +23,7 @@ use Rattle.header.specs.Header.{part, number, lasf}
 use Rattle.header.specs.Judged.{eqList, standardOf, versionOf, sized, versioned, judged, readBy, readOf}
 use Rattle.file.specs.declared.Checked.{Checked}
 use Rattle.file.specs.declared.Checked.the-variants.{Accepted, Refused}
-use Rattle.file.specs.Rules.{Rule, rule, recordNumber, refusedBy, first, formatBytes}
+use Rattle.file.specs.Rules.{Rule, recordNumber, refusedBy, first, formatBytes}
 
 -- all rules of a list hold
 abbrev pub All : List Rule → Type 0
@@ -132,6 +133,15 @@ format-bytes f =
 pub has-length : (f : ℕ) → lenOf (coded f false) ≡ len.Is (formatBytes f)
 unfolding formatBytes lenOf
 has-length f = rw (le-ltb 65535 (recordBytes (coded f false)) (omega (arith, format-bytes f .1)))
+
+-- a length is refused only of an overlong format
+pub len-over : (f : Format) {r : Refusal} → lenOf f ≡ len.Refused r → 65535 < recordBytes f
+unfolding lenOf
+len-over f {r} = go (ltb 65535 (recordBytes f)) refl
+  where
+    go : (b : Bool) → ltb 65535 (recordBytes f) ≡ b → cond b (len.Refused (RecordLength (recordBytes f))) (len.Is (recordBytes f)) ≡ len.Refused r → 65535 < recordBytes f
+    go true over e = ltb-true 65535 (recordBytes f) over
+    go false over e = let z : _≡_ {A = ℕ} 0 1 = cc in absurd (omega arith)
 
 pub uncompressed : (f : ℕ) → f ≤ 10 → ltb f 128 ≡ true
 uncompressed f h = lt-ltb f 128 (omega arith)

@@ -4,3 +4,4 @@ pub mod Laws
 pub mod Holds
 pub mod Counts
 pub mod Theorems
+pub mod Points

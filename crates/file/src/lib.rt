@@ -1,11 +1,13 @@
 // The file check: document 01, "When a file is accepted", rules 1 to 8 in their order.
 ghost use mathlib.Core.Path.{_≡_};
-ghost use Prim.Native.Nat.{_+_, _≤_, _<_};
+ghost use Prim.Native.Nat.{_+_, _-_, _<_};
 ghost use lib.ListN.{length};
 ghost use Rattle.file.specs.declared.Checked.the-variants as checked;
 ghost use mathlib.Core.List.{_∷_};
 ghost use Rattle.file.specs.Rules.{first, highestFormat, formatBytes, headerRules, tooFar, noLength, recordRules, pointsEnd, pointRule, evlrRules, partRules, outlineRules, recordsOf, checkedOf};
 ghost use Rattle.file.specs.Steps.{measuredOf, Bounded};
+ghost use Rattle.file.specs.Points.{pointFormat};
+ghost use Rattle.format.specs.Fields.{recordBytes};
 use format::Format;
 use format::FormatLen;
 use format::NewFormat;
@@ -235,6 +237,33 @@ fn format_length(f: u8) -> u16
         return 0;
     };
     n
+}
+
+// The format of a file's points, whose extra bytes fill the header's record length. Of a header that the check refuses:
+// `Format::default` where the code has no format, and no extra bytes where the record length is below the format's.
+pub fn point_format(o: Outline) -> Format
+    ensures { λ r. ⌜ r ≡ pointFormat o ⌝ }
+{
+    let NewFormat::Is(mut format) = Format::new(o.point_data_record_format) else {
+        return Format::default();
+    };
+    let extra = beyond(format, o.point_data_record_length);
+    format.extra_bytes = extra;
+    format
+}
+
+// The bytes that a record of this length has beyond this format's, 0 where it is shorter. No u16 is longer than an
+// overlong format.
+fn beyond(format: Format, length: u16) -> u16
+    ensures { λ r. ⌜ r ≡ «length» - recordBytes format ⌝ }
+{
+    let FormatLen::Is(n) = format.len() else {
+        return 0;
+    };
+    if length < n {
+        return 0;
+    }
+    length - n
 }
 
 // A refusal that names no record, after `records` whole ones.

@@ -1,5 +1,5 @@
 -- What the private steps ask of the bytes that they are given: each is a whole part of its kind.
-use Prim.Native.Nat.{ℕ, _+_, _*_, _≤_, _<_}
+use Prim.Native.Nat.{ℕ, _+_, _*_, _≤_}
 use mathlib.Core.Path.{_≡_}
 use mathlib.Core.Bool.{Bool, true, false}
 use mathlib.Core.List.{List, [], _∷_}
@@ -12,7 +12,7 @@ use Rattle.vlr.specs.Vlr.{readOf}
 use Rattle.header.specs.declared.HeaderAnswer.the-variants.{Whole}
 use Rattle.header.specs.Judged.{judged}
 use Rattle.outline.specs.declared.Outline.{Outline}
-use Rattle.file.specs.Rules.{formatBytes}
+use Rattle.file.specs.Points.{pointFormat}
 use Rattle.cursor.specs.declared.Part.{Part}
 use Rattle.cursor.specs.declared.Kind.{Kind}
 use Rattle.cursor.specs.declared.Kind.the-variants.{Header, Vlr, Gap, Points, Evlr}
@@ -32,17 +32,12 @@ PointPart f s = lenOf f ≡ Is (length s)
 abbrev pub PointsPart : Format → ℕ → ℕ → List ℕ → Type 0
 PointsPart f m k s = (lenOf f ≡ Is m) × (length s ≡ k * m)
 
--- rules 3 and 4: there is a format, and a record is no shorter than the format's
-pub record HasFormat (o : Outline) : Type 0 where
-  pub known : o .«point_data_record_format» < 11
-  pub long : formatBytes (o .«point_data_record_format») ≤ o .«point_data_record_length»
-  pub fits : o .«point_data_record_length» ≤ 65535
-
+-- a part of its kind; points are in the format of the file's
 unfoldable pub PartIs : Outline → Kind → List ℕ → Type 0
 PartIs o Header s = HeaderPart s
 PartIs o Vlr s = VlrPart false s
 PartIs o Gap s = Unit
-PartIs o Points s = HasFormat o × (length s ≡ o .«number_of_point_records» * o .«point_data_record_length»)
+PartIs o Points s = PointsPart (pointFormat o) (o .«point_data_record_length») (o .«number_of_point_records») s
 PartIs o Evlr s = VlrPart true s
 
 -- a part that begins at a place, ends in the file, and is whole

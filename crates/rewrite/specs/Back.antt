@@ -1,11 +1,10 @@
 -- What stands for each part in the rewritten file: "header, VLRs, EVLRs and points are each written from what their reader
 -- answers" (document 01). Each definition is the writer's own, of the reader's own.
-use Prim.Native.Nat.{ℕ, zero, suc, _-_}
+use Prim.Native.Nat.{ℕ, zero, suc}
 use mathlib.Core.Bool.{Bool, true, false}
 use mathlib.Core.List.{List, [], _++_}
 use lib.ListN.{take, drop}
 use Rattle.format.specs.declared.Format.{Format}
-use Rattle.format.specs.Codes.{coded}
 use Rattle.point.specs.declared.PointRead.{PointRead}
 use Rattle.point.specs.declared.PointRead.the-variants.{Is, Refused}
 use Rattle.point.specs.Read as point
@@ -16,7 +15,7 @@ use Rattle.header.specs.Judged as header
 use Rattle.header.specs.Judged.{paddingOf}
 use Rattle.header_write.specs.Bytes.{block}
 use Rattle.outline.specs.declared.Outline.{Outline}
-use Rattle.file.specs.Rules.{formatBytes}
+use Rattle.file.specs.Points.{pointFormat}
 use Rattle.cursor.specs.declared.Kind.{Kind}
 use Rattle.cursor.specs.declared.Kind.the-variants.{Header, Vlr, Gap, Points, Evlr}
 
@@ -35,20 +34,6 @@ pointBy f e (Refused r) = []
 
 unfoldable pub pointBack : Format → List ℕ → List ℕ
 pointBack f s = pointBy f (point.extraOf f s) (point.readOf f s)
-
--- the format of the file's points: the header's, and "The rest is extra bytes"
-unfoldable pub pointFormat : Outline → Format
-pointFormat o =
-    let f = coded (o .«point_data_record_format») false in
-    record {
-      «has_gps_time» = f .«has_gps_time»;
-      «has_color» = f .«has_color»;
-      «is_extended» = f .«is_extended»;
-      «has_waveform» = f .«has_waveform»;
-      «has_nir» = f .«has_nir»;
-      «extra_bytes» = o .«point_data_record_length» - formatBytes (o .«point_data_record_format»);
-      «is_compressed» = f .«is_compressed»;
-    }
 
 -- records of m bytes, one after the other
 unfoldable pub pointsBack : Format → ℕ → ℕ → List ℕ → List ℕ

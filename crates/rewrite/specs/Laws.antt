@@ -14,8 +14,7 @@ use Rattle.le.specs.Laws.{num-take}
 use Rattle.format.specs.declared.Format.{Format}
 use Rattle.format.specs.declared.FormatLen.the-variants as len
 use Rattle.format.specs.Fields.{lenOf, recordBytes}
-use Rattle.format.specs.Codes.{coded}
-use Rattle.format.specs.Laws.{record-sum, len-is}
+use Rattle.format.specs.Laws.{len-is}
 use Rattle.point.specs.declared.PointRead.the-variants.{Is}
 use Rattle.point.specs.Read.{pointOf, sizedOf, readAfter, readOf, extraOf}
 use Rattle.point_write.specs.Write.{recordOf}
@@ -33,10 +32,8 @@ use Rattle.header.specs.Header.{number}
 use Rattle.header.specs.Window.{bytes-take}
 use Rattle.header_write.specs.Back.{Paired}
 use Rattle.header_write.specs.Theorems as header
-use Rattle.outline.specs.declared.Outline.{Outline}
-use Rattle.file.specs.Rules.{formatBytes}
-use Rattle.rewrite.specs.Back.{headerBack, vlrBack, pointFormat, pointBy, pointBack, pointsBack}
-use Rattle.rewrite.specs.Asked.{HeaderPart, VlrPart, PointPart, HasFormat, PointsPart}
+use Rattle.rewrite.specs.Back.{headerBack, vlrBack, pointBy, pointBack, pointsBack}
+use Rattle.rewrite.specs.Asked.{HeaderPart, VlrPart, PointPart, PointsPart}
 
 -- a whole record is read, and what stands for it is the writer's bytes of that point
 module _ (f : Format) (s : List ℕ) (whole : PointPart f s) where
@@ -66,14 +63,6 @@ points-same f m (suc k) s long h bytes =
     let first : pointBack f (take m s) ≡ take m s = point-same f (take m s) (rw size long) (bytes-take m s bytes) in
     let rest : pointsBack f m k (drop m s) ≡ take (k * m) (drop m s) = points-same f m k (drop m s) long (simp length-drop (omega arith)) (bytes-drop m s bytes) in
     rw (first, rest, more, take-add)
-
--- a record of the file's format has the header's record length
-pub format-length : (o : Outline) → HasFormat o → lenOf (pointFormat o) ≡ len.Is (o .«point_data_record_length»)
-unfolding pointFormat coded formatBytes lenOf
-format-length o has =
-    let f = coded (o .«point_data_record_format») false in
-    let size : recordBytes (pointFormat o) ≡ o .«point_data_record_length» = omega (arith, record-sum (pointFormat o), record-sum f, has .long) in
-    rw (size, le-ltb 65535 (o .«point_data_record_length») (has .fits))
 
 -- all the points of a part
 pub part-same : (f : Format) (m k : ℕ) (s : List ℕ) → PointsPart f m k s → Bytes s → pointsBack f m k s ≡ s

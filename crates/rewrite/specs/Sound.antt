@@ -1,5 +1,5 @@
 -- The parts of an accepted file cover it, are whole, and only the first is a header.
-use Prim.Native.Nat.{ℕ, zero, suc, _+_, _-_, _≤_, _<_}
+use Prim.Native.Nat.{ℕ, zero, suc, _+_, _-_, _≤_}
 use mathlib.Core.Path.{_≡_, refl, sym, subst, _∙_}
 use mathlib.Core.Bool.{Bool, true, false, cond}
 use mathlib.Core.List.{List, [], _∷_, _++_}
@@ -10,18 +10,18 @@ use lib.Dec.{ltb}
 use lib.ListN.{length, take, drop, length-take, length-drop}
 use lib.Seq.{take-take, length-take-le}
 use Rattle.le.specs.Le.{Bytes}
-use Rattle.le.specs.Laws.{num-take, num-lt}
+use Rattle.le.specs.Laws.{num-take}
 use Rattle.vlr.specs.Vlr.{recordSize}
 use Rattle.header.specs.Layout.{HeaderSize}
 use Rattle.header.specs.Header.{number, headerOf}
 use Rattle.header.specs.Judged.{readBy, readOf, paddedTo}
-use Rattle.header.specs.Window.{bytes-take}
 use Rattle.header.specs.Laws.{accepted, within, agreed}
 use Rattle.outline.specs.declared.Outline.{Outline}
 use Rattle.outline.specs.Outline.{outlineOf}
 use Rattle.file.specs.declared.Checked.the-variants as checked
 use Rattle.file.specs.Rules.{pointsEnd, checkedOf}
 use Rattle.file.specs.Holds.{Holds}
+use Rattle.file.specs.Points.{format-len}
 use Rattle.file.specs.Theorems.{accepted-holds}
 use Rattle.cursor.specs.declared.Part.{Part}
 use Rattle.cursor.specs.declared.Kind.{Kind}
@@ -29,7 +29,7 @@ use Rattle.cursor.specs.declared.Kind.the-variants.{Vlr, Gap, Points, Evlr}
 use Rattle.cursor.specs.Parts.{part, gap, between, recordParts, outlineIn, evlrsStart, partsOf, Records}
 use Rattle.cursor.specs.Laws.{drop-between}
 use Rattle.cursor.specs.Accepted.{laid}
-use Rattle.rewrite.specs.Asked.{HeaderPart, VlrPart, HasFormat, PartIs, At, Tiles}
+use Rattle.rewrite.specs.Asked.{HeaderPart, VlrPart, PartIs, At, Tiles}
 use Rattle.rewrite.specs.Laws.{record-whole}
 use Rattle.rewrite.specs.Whole.{isHeader, NoHeader, HeaderFirst, tiles-append}
 
@@ -94,12 +94,6 @@ module _ (allowance : ℕ) (s : List ℕ) (h : Holds allowance s) where
       let same = agreed s (take (h .end) s) (h .header) (sym (take-take (h .end) (h .end) s (omega arith))) in
       subst (λ (n : ℕ). HeaderPart (take n s)) ends-at (h .block, rw (length-take-le (h .end) s (w .2)) same)
 
-  has-format : Bytes s → HasFormat (outlineIn s)
-  unfolding outlineOf readOf readBy headerOf
-  has-format bytes =
-      let small : outlineIn s .«point_data_record_length» < 65536 = rw (h .header) (num-lt 2 (take (h .block) s) 105 (bytes-take (h .block) s bytes)) in
-      record { known = omega (arith, h .parts .format); long = h .parts .record-length; fits = omega arith }
-
 -- The parts of an accepted file.
 module _ (allowance : ℕ) (s : List ℕ) (bytes : Bytes s) {n : ℕ} (p : checkedOf allowance s ≡ checked.Accepted n) where
   pub file-tiles : Tiles (outlineIn s) s 0 (partsOf (outlineIn s) s) (length s)
@@ -116,7 +110,7 @@ module _ (allowance : ℕ) (s : List ℕ) (bytes : Bytes s) {n : ℕ} (p : check
       let to-end : points + (end - points) ≡ end = omega arith in
       let after = tiles-append o s end start (length s) (gap end start) evlrs (gap-tiles o s end start (l .after-points) (l .within))
       (record-tiles o s Evlr true (λ t w. w) (o .«number_of_evlrs») start (length s) (l .within) (omega arith) (l .evlrs)) in
-      let points-at : At o s points (part Points points (end - points)) = record { start = refl; ends = omega (arith, h .parts .points-within); whole = (has-format allowance s h bytes, omega (arith, whole)) } in (
+      let points-at : At o s points (part Points points (end - points)) = record { start = refl; ends = omega (arith, h .parts .points-within); whole = (format-len allowance s h bytes, omega (arith, whole)) } in (
         record { start = refl; ends = omega (arith, l .after-header, h .parts .offset-within); whole = header-whole allowance s h },
         rw zero-add (tiles-append o s (o .«header_size») points (length s) (recordParts Vlr false (o .«number_of_variable_length_records») (o .«header_size») points s) (part Points points (end - points) ∷ (gap end start ++ evlrs))
             (record-tiles o s Vlr false (λ t w. w) (o .«number_of_variable_length_records») (o .«header_size») points (l .after-header) (h .parts .offset-within) (l .vlrs))

@@ -1,5 +1,5 @@
 -- Of bytes, what stands for all parts is the file, but for the header's EVLR pair.
-use Prim.Native.Nat.{ℕ, _+_, _-_}
+use Prim.Native.Nat.{ℕ, _+_}
 use mathlib.Core.Path.{_≡_, refl, ap, sym, _∙_}
 use mathlib.Core.Bool.{Bool, true, false}
 use mathlib.Core.List.{List, [], _∷_, _++_}
@@ -14,7 +14,7 @@ use Rattle.cursor.specs.declared.Part.{Part}
 use Rattle.cursor.specs.declared.Kind.{Kind}
 use Rattle.cursor.specs.declared.Kind.the-variants.{Header, Vlr, Gap, Points, Evlr}
 use Rattle.rewrite.specs.Back.{partBack}
-use Rattle.rewrite.specs.Laws.{bytes-drop, format-length, part-same, vlr-same}
+use Rattle.rewrite.specs.Laws.{bytes-drop, part-same, vlr-same}
 use Rattle.rewrite.specs.Pair.{written, header-written, length-written, written-append}
 use Rattle.cursor.specs.Parts.{bytesOf}
 use Rattle.rewrite.specs.Rewritten.{backOf}
@@ -49,7 +49,7 @@ module _ (o : Outline) where
   body-same Header t whole bytes body = let z : _≡_ {A = ℕ} 0 1 = cc in absurd (omega arith)
   body-same Vlr t whole bytes body = vlr-same false t whole bytes
   body-same Gap t whole bytes body = refl
-  body-same Points t whole bytes body = part-same _ _ _ t (format-length o (whole .0), whole .1) bytes
+  body-same Points t whole bytes body = part-same _ _ _ t whole bytes
   body-same Evlr t whole bytes body = vlr-same true t whole bytes
 
   -- and what stands for any has its length
@@ -58,7 +58,7 @@ module _ (o : Outline) where
   part-length Header t whole bytes = ap length (header-written t whole bytes) ∙ length-written t whole
   part-length Vlr t whole bytes = ap length (vlr-same false t whole bytes)
   part-length Gap t whole bytes = refl
-  part-length Points t whole bytes = ap length (part-same _ _ _ t (format-length o (whole .0), whole .1) bytes)
+  part-length Points t whole bytes = ap length (part-same _ _ _ t whole bytes)
   part-length Evlr t whole bytes = ap length (vlr-same true t whole bytes)
 
   module _ (s : List ℕ) (bytes : Bytes s) where

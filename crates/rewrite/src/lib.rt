@@ -5,14 +5,12 @@ ghost use Prim.Native.Nat.{_≤_};
 ghost use lib.ListN.{length, drop};
 ghost use Rattle.cursor.specs.Cursor.{leftOf};
 ghost use Rattle.rewrite.specs.Rewritten.{backOf, rewrittenOf};
-ghost use Rattle.rewrite.specs.Back.{pointFormat, headerBack, vlrBack, pointBack, pointsBack, partBack};
-ghost use Rattle.rewrite.specs.Asked.{Tiles, VlrPart, PointPart, PointsPart, HeaderPart, PartIs, HasFormat};
+ghost use Rattle.rewrite.specs.Back.{headerBack, vlrBack, pointBack, pointsBack, partBack};
+ghost use Rattle.rewrite.specs.Asked.{Tiles, VlrPart, PointPart, PointsPart, HeaderPart, PartIs};
 use cursor::Cursor;
 use cursor::Kind;
 use cursor::Started;
 use format::Format;
-use format::FormatLen;
-use format::NewFormat;
 use header::Header;
 use outline::Outline;
 use point::Point;
@@ -81,7 +79,7 @@ fn rewrite_part(kind: Kind, src: &[u8], o: Outline, dst: &mut [u8])
         Kind::Points => {
             let length = o.point_data_record_length as usize;
             let count = o.number_of_point_records as usize;
-            rewrite_points(src, point_format(o), length, count, dst)
+            rewrite_points(src, file::point_format(o), length, count, dst)
         }
         Kind::Evlr => rewrite_vlr(src, true, dst),
     }
@@ -125,22 +123,6 @@ fn rewrite_points(src: &[u8], format: Format, record_length: usize, count: usize
         at += record_length;
         left -= 1;
     }
-}
-
-// The format of the file's points: the header's, and what its record length has beyond that is extra bytes. A code of an
-// accepted file has a format and a length, so neither else is reached.
-fn point_format(o: Outline) -> Format
-    requires { ⌜ HasFormat o ⌝ }
-    ensures { λ r. ⌜ r ≡ pointFormat o ⌝ }
-{
-    let NewFormat::Is(mut format) = Format::new(o.point_data_record_format) else {
-        return Format::default();
-    };
-    let FormatLen::Is(n) = format.len() else {
-        return Format::default();
-    };
-    format.extra_bytes = o.point_data_record_length - n;
-    format
 }
 
 // A point and its extra bytes, written from what their readers answer. A whole record is not refused, so the else is not

@@ -4,7 +4,7 @@ use mathlib.Core.Path.{_≡_, refl, ap, sym, _∙_}
 use mathlib.Core.Bool.{Bool, true, false, cond, _&&_}
 use mathlib.Core.List.{List, []}
 use native.Mathlib.Omega.{arith}
-use borrow.Author.Tests.{leb-true, ltb-true, ltb-false, le-ltb, lt-ltb, le-leb, lt-leb}
+use borrow.Author.Tests.{leb-true, ltb-true, ltb-false, le-ltb, lt-ltb, le-leb}
 use lib.Dec.{ltb, leb}
 use lib.ListN.{length, take, drop, length-drop}
 use lib.Seq.{length-take-le}
@@ -23,7 +23,7 @@ use Rattle.walker.specs.declared.Walked.the-variants.{Point}
 use Rattle.walker.specs.declared.Took.{Took}
 use Rattle.walker.specs.Walk.{accepted, hasNext, recordOf, refusalOf, after, tookOf}
 
--- a format's length is refused just where it is overlong
+-- a format's length is told only where it is not overlong
 pub len-fits : (f : Format) (n : ℕ) → lenOf f ≡ len.Is n → leb (recordBytes f) 65535 ≡ true
 unfolding lenOf
 len-fits f n = go (ltb 65535 (recordBytes f)) refl
@@ -31,14 +31,6 @@ len-fits f n = go (ltb 65535 (recordBytes f)) refl
     go : (b : Bool) → ltb 65535 (recordBytes f) ≡ b → cond b (len.Refused (RecordLength (recordBytes f))) (len.Is (recordBytes f)) ≡ len.Is n → leb (recordBytes f) 65535 ≡ true
     go true t e = let z : _≡_ {A = ℕ} 0 1 = cc in absurd (omega arith)
     go false t e = le-leb (recordBytes f) 65535 (ltb-false 65535 (recordBytes f) t)
-
-pub len-over : (f : Format) (r : Refusal) → lenOf f ≡ len.Refused r → leb (recordBytes f) 65535 ≡ false
-unfolding lenOf
-len-over f r = go (ltb 65535 (recordBytes f)) refl
-  where
-    go : (b : Bool) → ltb 65535 (recordBytes f) ≡ b → cond b (len.Refused (RecordLength (recordBytes f))) (len.Is (recordBytes f)) ≡ len.Refused r → leb (recordBytes f) 65535 ≡ false
-    go true t e = lt-leb (recordBytes f) 65535 (ltb-true 65535 (recordBytes f) t)
-    go false t e = let z : _≡_ {A = ℕ} 0 1 = cc in absurd (omega arith)
 
 -- a record is read where its format is not overlong and its bytes are there
 pub read-whole : (f : Format) (s : List ℕ) → recordBytes f ≤ 65535 → recordBytes f ≤ length s → readOf f s ≡ Is (pointOf f s)

@@ -20,10 +20,11 @@ use Rattle.outline.specs.declared.Outline.{Outline}
 use Rattle.outline.specs.Outline.{outlineOf}
 use Rattle.file.specs.declared.Checked.the-variants as checked
 use Rattle.file.specs.Rules.{checkedOf}
+use Rattle.file.specs.Points.{pointFormat}
 use Rattle.walker.specs.declared.Start.the-variants as start
 use Rattle.walker.specs.declared.Walked.the-variants.{Point, Refused}
 use Rattle.walker.specs.declared.Walker.{Walker}
-use Rattle.walker.specs.Begin.{filledOf, firstPlace, refusedPlace, beginOf, walkerOf}
+use Rattle.walker.specs.Begin.{firstPlace, refusedPlace, beginOf, walkerOf}
 use Rattle.walker.specs.Walk.{hasNext, recordOf, refusalOf}
 use Rattle.walker.specs.Steps.{walkedOn, answerOf, gives, reads, shows, ends, repeats, by-count}
 use Rattle.walker.specs.Accepted.{firstOf, at-first, ready, nth-is}
@@ -55,7 +56,7 @@ module _ (allowance : ℕ) (file : RefT (List ℕ)) where
 
     -- the header's format, and the k-th record, counted from 0, by the header's record length
     abbrev f : Format
-    f = filledOf (o .«point_data_record_format») (o .«point_data_record_length»)
+    f = pointFormat o
 
     abbrev nth : ℕ → List ℕ
     nth k = take (o .«point_data_record_length») (drop (o .«offset_to_point_data» + k * o .«point_data_record_length») (now file))

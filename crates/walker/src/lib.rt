@@ -1,13 +1,10 @@
 // A walker over the points of a lent file: each record in turn, and at the end 27. Added by document 01.
 ghost use mathlib.Core.Path.{_≡_};
-ghost use Prim.Native.Nat.{_<_, _≤_};
-ghost use Rattle.file.specs.Rules.{formatBytes};
-ghost use Rattle.walker.specs.Begin.{filledOf, Sized, firstPlace, refusedPlace, beginOf, walkerOf};
+ghost use Rattle.walker.specs.Begin.{firstPlace, refusedPlace, beginOf, walkerOf};
 ghost use Rattle.walker.specs.Walk.{wholeAt, recordOf, refusalOf, tookOf, nextOf};
 use file::Checked;
 use format::Format;
 use format::FormatLen;
-use format::NewFormat;
 use header::Header;
 use outline::Outline;
 use point::Point;
@@ -87,32 +84,15 @@ pub fn begin(file: &[u8], allowance: u64) -> Place
 
 // The place before the first point of an accepted file.
 fn first_place(o: Outline) -> Place
-    requires { ⌜ Sized o ⌝ }
     ensures { λ r. ⌜ r ≡ firstPlace o ⌝ }
 {
     Place {
-        format: format_of_length(o.point_data_record_format, o.point_data_record_length),
+        format: file::point_format(o),
         at: o.offset_to_point_data as usize,
         left: o.number_of_point_records,
         count: o.number_of_point_records,
         start: Start::Accepted,
     }
-}
-
-// The format with this code, whose extra bytes fill a record of this length. A code below 11 has a format, of at most 67
-// bytes, so neither else is reached.
-fn format_of_length(code: u8, length: u16) -> Format
-    requires { ⌜ (code < 11) × (formatBytes code ≤ «length») ⌝ }
-    ensures { λ r. ⌜ r ≡ filledOf code «length» ⌝ }
-{
-    let NewFormat::Is(mut format) = Format::new(code) else {
-        return Format::default();
-    };
-    let FormatLen::Is(n) = format.len() else {
-        return format;
-    };
-    format.extra_bytes = length - n;
-    format
 }
 
 // A place from which a walker repeats this refusal.

@@ -2,7 +2,6 @@
 use borrow.Author.Needs.{needs}
 use Rattle.rewrite.specs.Back.{partBack}
 use Rattle.rewrite.specs.Asked.{PartIs}
-use Rattle.rewrite.specs.Laws.{format-length}
 use Rattle.rewrite.proofs.rewrite_part.Statement.{statement}
 use Rattle.rewrite.proofs.rewrite_part.Tie as tie
 
@@ -18,10 +17,6 @@ rewrite-vlr-requires-2 : tie.Need-rewrite-vlr-requires-2
 unfolding PartIs
 rewrite-vlr-requires-2 c κs = let k = c .before in let s = k .before .before .before .before in (rw (k .enum-told5 .given .1) at (s .pre .0), s .pre .1)
 
-point-format-requires : tie.Need-point-format-requires
-unfolding PartIs
-point-format-requires c κs = let k = c .before in let s = k .before .before .before .before in (rw (k .enum-told4 .given .1) at (s .pre .0)) .0
-
 rewrite-points-requires : tie.Need-rewrite-points-requires
 unfolding PartIs
 rewrite-points-requires c κs =
@@ -29,7 +24,7 @@ rewrite-points-requires c κs =
     let k = made .before .before in
     let s = k .before .before .before .before in
     let p = rw (k .enum-told4 .given .1) at (s .pre .0) in
-    ((rw (made .point-format .ensures) (format-length (s .args .o) (p .0)), p .1), s .pre .1)
+    ((rw (made .point-format .ensures) (p .0), p .1), s .pre .1)
 
 returns : tie.Need-returns
 unfolding partBack
@@ -59,5 +54,5 @@ rewrite-part-spec =
     tie.close
     (tie.spec
     (λ c. search needs) rewrite-header-requires (λ c. search needs) rewrite-vlr-requires (λ c. search needs) (λ c κs. search needs) (λ c. search needs) (λ c. search needs)
-    point-format-requires rewrite-points-requires (λ c. search needs) rewrite-vlr-requires-2 (λ c. search needs) returns (λ c. search needs) returns-2 (λ c. search needs)
+    (λ c κs. search needs) rewrite-points-requires (λ c. search needs) rewrite-vlr-requires-2 (λ c. search needs) returns (λ c. search needs) returns-2 (λ c. search needs)
     returns-3 (λ c. search needs) returns-4 (λ c. search needs) returns-5)

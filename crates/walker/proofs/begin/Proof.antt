@@ -4,18 +4,11 @@ use Rattle.header.specs.declared.HeaderRead.{HeaderRead}
 use Rattle.header.specs.Judged.{readOf}
 use Rattle.outline.specs.Outline.{outlineOf}
 use Rattle.walker.specs.Begin.{firstPlace, beginBy, beginOf}
-use Rattle.walker.specs.Accepted.{sized}
 use Rattle.walker.proofs.begin.Statement.{statement}
 use Rattle.walker.proofs.begin.Tie as tie
 
 outlined : (c : tie.After-of) → c .of .result ≡ outlineOf (readOf (c .before .before .before .before .before .before .args .file .now) .header)
 outlined c = c .of .ensures ∙ ap (λ (r : HeaderRead). outlineOf (r .header)) (c .before .read-from .ensures)
-
-first-place-requires : tie.Need-first-place-requires
-first-place-requires c κs =
-    let k = c .before .before .before .before in
-    let a = k .before .before .args in
-    rw (outlined c) (sized (a .allowance) (a .file .now) _ (sym (k .check .ensures) ∙ c .before .before .enum-told .given .1))
 
 returns : tie.Need-returns
 unfolding beginOf
@@ -36,5 +29,5 @@ pub begin-spec : {M : Type 1} → statement M
 begin-spec =
     tie.close
     (tie.spec
-    (λ c κs. search needs) (λ c. search needs) (λ c κs. search needs) (λ c κs. search needs) first-place-requires (λ c. search needs)
+    (λ c κs. search needs) (λ c. search needs) (λ c κs. search needs) (λ c κs. search needs) (λ c κs. search needs) (λ c. search needs)
     (λ c κs. search needs) returns returns-2)

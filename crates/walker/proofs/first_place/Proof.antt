@@ -5,7 +5,7 @@ use Rattle.walker.proofs.first_place.Tie as tie
 
 returns : tie.Need-returns
 unfolding firstPlace
-returns c = rw (c .before .format-of-length .ensures)
+returns c = rw (c .before .point-format .ensures)
 
 pub first-place-spec : {M : Type 1} → statement M
 first-place-spec = tie.close (tie.spec (λ c κs. search needs) (λ c. search needs) returns)

@@ -1,10 +1,11 @@
 use mathlib.Core.Path.{sym, _∙_}
 use borrow.Author.Needs.{needs}
-use borrow.Author.Tests.{le-ltb, lt-ltb}
+use borrow.Author.Tests.{le-ltb, lt-ltb, lt-leb}
 use native.Mathlib.Omega.{arith}
 use Rattle.format.specs.Laws.{len-is}
+use Rattle.file.specs.Laws.{len-over}
 use Rattle.walker.specs.Walk.{wholeAt, hasNext, recordOf}
-use Rattle.walker.specs.Laws.{len-fits, len-over}
+use Rattle.walker.specs.Laws.{len-fits}
 use Rattle.walker.proofs.record_at.Statement.{statement}
 use Rattle.walker.proofs.record_at.Tie as tie
 
@@ -17,7 +18,7 @@ unfolding recordOf hasNext
 returns-2 c =
     let l = c .before .before .before in
     let p = l .before .before .before .before .args .place in
-    rw (l .before .enum-told .given .1, len-over (p .format) _ (sym (l .len .ensures) ∙ c .before .enum-told3 .given .1))
+    rw (l .before .enum-told .given .1, lt-leb _ _ (len-over (p .format) (sym (l .len .ensures) ∙ c .before .enum-told3 .given .1)))
 
 returns-3 : tie.Need-returns-3
 unfolding recordOf hasNext
