@@ -14,11 +14,11 @@ use Rattle.outline.specs.declared.Outline.{Outline}
 use Rattle.file.specs.declared.Checked.the-variants as checked
 use Rattle.file.specs.Rules.{Rule, rule, readable, standardSize, headerRules, recordRules, pointsEnd, vlrBytes, vlrRules, pointRule, evlrRules, partRules, outlineRules, rulesOf, checkedOf}
 use Rattle.file.specs.Laws.{All, accepted-all}
-use Rattle.file.specs.Holds.{all-split}
-use Rattle.cursor.specs.Parts.{between, outlineIn, evlrsStart, Records, Laid}
+use Rattle.file.specs.Holds.{Run, all-split}
+use Rattle.cursor.specs.Parts.{between, outlineIn, evlrsStart, Laid}
 
 -- records that keep the rules are all there
-records : (extended : Bool) (allowance n k : ℕ) (rest : List ℕ) → All (recordRules extended allowance n k rest) → Records extended k rest
+records : (extended : Bool) (allowance n k : ℕ) (rest : List ℕ) → All (recordRules extended allowance n k rest) → Run extended k rest
 unfolding recordRules
 records extended allowance n zero rest a = tt
 records extended allowance n (suc k) rest (spent, (head, (size, a))) = (leb-true _ _ size, records extended allowance (suc n) k _ a)
@@ -29,7 +29,7 @@ to-end from s = sym (take-all (length s - from) (drop from s) (simp length-drop 
 
 module _ (allowance : ℕ) (o : Outline) (s : List ℕ) (in-file : pointsEnd o ≤ length s) where
   abbrev After : ℕ → Type 0
-  After start = (pointsEnd o ≤ start) × (start ≤ length s) × Records true (o .«number_of_evlrs») (between start (length s) s)
+  After start = (pointsEnd o ≤ start) × (start ≤ length s) × Run true (o .«number_of_evlrs») (between start (length s) s)
 
   abbrev start : ℕ
   start = o .«start_of_first_evlr»
@@ -44,7 +44,7 @@ module _ (allowance : ℕ) (o : Outline) (s : List ℕ) (in-file : pointsEnd o �
   by-count : (b : Bool) → eqb (o .«number_of_evlrs») 0 ≡ b → All (cond b [] rules) → After (cond b (pointsEnd o) start)
   by-count true e a = (omega arith, in-file, rw (eqb-true (o .«number_of_evlrs») 0 e) tt)
   by-count false e (above, (below, a)) =
-      (leb-true _ _ above, leb-true _ _ below, subst (Records true (o .«number_of_evlrs»)) (to-end start s) (records true allowance _ _ (drop start s) a))
+      (leb-true _ _ above, leb-true _ _ below, subst (Run true (o .«number_of_evlrs»)) (to-end start s) (records true allowance _ _ (drop start s) a))
 
   -- rule 8, and what is so where there are no EVLRs
   after-points : All (evlrRules allowance o s) → After (evlrsStart o)

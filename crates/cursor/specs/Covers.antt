@@ -13,10 +13,11 @@ use Rattle.vlr.specs.Vlr.{recordSize}
 use Rattle.vlr.specs.Laws.{takes}
 use Rattle.outline.specs.declared.Outline.{Outline}
 use Rattle.file.specs.Rules.{pointsEnd}
+use Rattle.file.specs.Holds.{Run}
 use Rattle.cursor.specs.declared.Kind.{Kind}
 use Rattle.cursor.specs.declared.Kind.the-variants as kind
 use Rattle.cursor.specs.declared.Part.{Part}
-use Rattle.cursor.specs.Parts.{part, gap, between, recordParts, evlrsStart, partsOf, Records, Laid, Covers, joined}
+use Rattle.cursor.specs.Parts.{part, gap, between, recordParts, evlrsStart, partsOf, Laid, Covers, joined}
 use Rattle.cursor.specs.Cursor.{planOf, firstOf, recordsFrom, evlrsFrom, endFrom, pointsFrom, vlrsFrom, leftOf}
 use Rattle.cursor.specs.Laws.{between-short, drop-between}
 
@@ -34,17 +35,17 @@ covers-gap from to le = go (ltb from to) refl
 
 module _ (s : List ℕ) (k : Kind) (extended : Bool) where
   -- what is left after the first of some records
-  others : (n at to : ℕ) → Records extended n (drop (recordSize extended (between at to s)) (between at to s)) → Records extended n (between (at + recordSize extended (between at to s)) to s)
-  others n at to r = subst (Records extended n) (drop-between (recordSize extended (between at to s)) at to s) r
+  others : (n at to : ℕ) → Run extended n (drop (recordSize extended (between at to s)) (between at to s)) → Run extended n (between (at + recordSize extended (between at to s)) to s)
+  others n at to r = subst (Run extended n) (drop-between (recordSize extended (between at to s)) at to s) r
 
-  covers-records : (n at to : ℕ) → at ≤ to → Records extended n (between at to s) → Covers at to (recordParts k extended n at to s)
+  covers-records : (n at to : ℕ) → at ≤ to → Run extended n (between at to s) → Covers at to (recordParts k extended n at to s)
   unfolding recordParts
   covers-records zero at to le r = covers-gap at to le
   covers-records (suc n) at to le (here, r) =
       (refl, covers-records n (at + recordSize extended (between at to s)) to (omega (arith, between-short at to s)) (others n at to r))
 
   -- what a cursor tells of records that are all there
-  tells-records : (n at to : ℕ) (after : List Part) → Records extended n (between at to s) → recordsFrom s k extended n at to after ≡ recordParts k extended n at to s ++ after
+  tells-records : (n at to : ℕ) (after : List Part) → Run extended n (between at to s) → recordsFrom s k extended n at to after ≡ recordParts k extended n at to s ++ after
   unfolding recordsFrom recordParts recordSize
   tells-records zero at to after r = refl
   tells-records (suc n) at to after (here, r) =

@@ -10,6 +10,7 @@ use Rattle.header.specs.Judged.{readOf}
 use Rattle.outline.specs.declared.Outline.{Outline}
 use Rattle.outline.specs.Outline.{outlineOf}
 use Rattle.file.specs.Rules.{pointsEnd}
+use Rattle.file.specs.Holds.{Run}
 use Rattle.cursor.specs.declared.Kind.{Kind}
 use Rattle.cursor.specs.declared.Kind.the-variants.{Header, Vlr, Gap, Points, Evlr}
 use Rattle.cursor.specs.declared.Part.{Part}
@@ -51,18 +52,13 @@ partsOf o s =
     (gap (pointsEnd o) (evlrsStart o)
     ++ recordParts Evlr true (o .«number_of_evlrs») (evlrsStart o) (length s) s)))
 
--- k records at the start of `rest`, one after the other, are all there
-abbrev pub Records : Bool → ℕ → List ℕ → Type 0
-Records extended zero rest = Unit {0}
-Records extended (suc k) rest = (recordSize extended rest ≤ length rest) × Records extended k (drop (recordSize extended rest) rest)
-
 -- What the rules of an accepted file say of its parts.
 pub record Laid (o : Outline) (s : List ℕ) : Type 0 where
   pub after-header : o .«header_size» ≤ o .«offset_to_point_data»
-  pub vlrs : Records false (o .«number_of_variable_length_records») (between (o .«header_size») (o .«offset_to_point_data») s)
+  pub vlrs : Run false (o .«number_of_variable_length_records») (between (o .«header_size») (o .«offset_to_point_data») s)
   pub after-points : pointsEnd o ≤ evlrsStart o
   pub within : evlrsStart o ≤ length s
-  pub evlrs : Records true (o .«number_of_evlrs») (between (evlrsStart o) (length s) s)
+  pub evlrs : Run true (o .«number_of_evlrs») (between (evlrsStart o) (length s) s)
 
 -- The parts ps cover the bytes from one place up to another, none overlapping: each starts where the one before it ends.
 abbrev pub Covers : ℕ → ℕ → List Part → Type 0

@@ -20,13 +20,13 @@ use Rattle.outline.specs.declared.Outline.{Outline}
 use Rattle.outline.specs.Outline.{outlineOf}
 use Rattle.file.specs.declared.Checked.the-variants as checked
 use Rattle.file.specs.Rules.{pointsEnd, checkedOf}
-use Rattle.file.specs.Holds.{Holds}
+use Rattle.file.specs.Holds.{Run, Holds}
 use Rattle.file.specs.Points.{format-len}
 use Rattle.file.specs.Theorems.{accepted-holds}
 use Rattle.cursor.specs.declared.Part.{Part}
 use Rattle.cursor.specs.declared.Kind.{Kind}
 use Rattle.cursor.specs.declared.Kind.the-variants.{Vlr, Gap, Points, Evlr}
-use Rattle.cursor.specs.Parts.{part, gap, between, recordParts, outlineIn, evlrsStart, partsOf, Records}
+use Rattle.cursor.specs.Parts.{part, gap, between, recordParts, outlineIn, evlrsStart, partsOf}
 use Rattle.cursor.specs.Laws.{drop-between}
 use Rattle.cursor.specs.Accepted.{laid}
 use Rattle.rewrite.specs.Asked.{HeaderPart, VlrPart, PartIs, At, Tiles}
@@ -62,7 +62,7 @@ module _ (o : Outline) (s : List ℕ) where
 
   -- records of a kind, and the gap after them
   module _ (k : Kind) (x : Bool) (is : (t : List ℕ) → VlrPart x t → PartIs o k t) where
-    record-tiles : (n at to : ℕ) → at ≤ to → to ≤ length s → Records x n (between at to s) → Tiles o s at (recordParts k x n at to s) to
+    record-tiles : (n at to : ℕ) → at ≤ to → to ≤ length s → Run x n (between at to s) → Tiles o s at (recordParts k x n at to s) to
     unfolding recordParts
     record-tiles zero at to le in-file r = gap-tiles at to le in-file
     record-tiles (suc n) at to le in-file (here, r) =
@@ -70,7 +70,7 @@ module _ (o : Outline) (s : List ℕ) where
         let short : m ≤ to - at = omega (arith, length-take (to - at) (drop at s)) in
         let cut : take m (between at to s) ≡ take m (drop at s) = take-take m (to - at) (drop at s) short in (
           record { start = refl; ends = omega arith; whole = is (take m (drop at s)) (subst (VlrPart x) cut (record-whole x (between at to s) here)) },
-          record-tiles n (at + m) to (omega arith) in-file (subst (Records x n) (drop-between m at to s) r),
+          record-tiles n (at + m) to (omega arith) in-file (subst (Run x n) (drop-between m at to s) r),
         )
 
 module _ (allowance : ℕ) (s : List ℕ) (h : Holds allowance s) where
