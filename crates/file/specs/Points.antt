@@ -41,7 +41,7 @@ withExtra n f =
       «is_compressed» = f .«is_compressed»;
     }
 
--- "Record length below the format's: 8. The rest is extra bytes."; where a code has no format, the format with no attribute
+-- "Record length below the format's: 8. The rest is extra bytes." Where the code is refused, the format with no attribute.
 abbrev pub filled : ℕ → NewFormat → Format
 filled length (new.Is f) = withExtra (length - recordBytes f) f
 filled length (new.Refused r) = plain

@@ -240,7 +240,7 @@ fn format_length(f: u8) -> u16
 }
 
 // The format of a file's points, whose extra bytes fill the header's record length. Of a header that the check refuses:
-// `Format::default` where the code has no format, and no extra bytes where the record length is below the format's.
+// `Format::default` where `Format::new` refuses the code, and no extra bytes where the record length is below the format's.
 pub fn point_format(o: Outline) -> Format
     ensures { λ r. ⌜ r ≡ pointFormat o ⌝ }
 {
