@@ -1,2 +1,6 @@
 pub mod Fit
 pub mod Upgrade
+pub mod Shown
+pub mod Made
+pub mod Laws
+pub mod Back
