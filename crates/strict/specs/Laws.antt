@@ -23,6 +23,10 @@ use Rattle.strict.specs.Made.{OldFirst, old-first, OldSecond, old-second
 pub not-refused : {A : Type 0} (r : Refusal) → Refused r ≡ Fits → A
 not-refused r e = let z : _≡_ {A = ℕ} 0 1 = cc in absurd (omega arith)
 
+pub only-fits : (t : Bool) (r : Refusal) → cond t Fits (Refused r) ≡ Fits → t ≡ true
+only-fits true r e = refl
+only-fits false r e = not-refused r e
+
 -- what the tests of five readings say together
 pub record Fitting (returnNumber returns class channel : ℕ) (overlap : Bool) : Type 0 where
   pub return-number : returnNumber ≤ 7
@@ -44,16 +48,12 @@ module _ (r n k c : ℕ) (o : Bool) where
         number-of-returns = ltb-false 7 n (two .0);
         class-fits = ltb-false 31 k (three .0);
         no-channel = omega (arith, ltb-false 0 c (four .0));
-        goes = last (overlapGoes o k) _ (four .1);
+        goes = only-fits (overlapGoes o k) _ (four .1);
       }
     where
       past : (t : Bool) (x : Refusal) (y : Fit) → cond t (Refused x) y ≡ Fits → (t ≡ false) × (y ≡ Fits)
       past true x y e = not-refused x e
       past false x y e = (refl, e)
-
-      last : (t : Bool) (x : Refusal) → cond t Fits (Refused x) ≡ Fits → t ≡ true
-      last true x e = refl
-      last false x e = not-refused x e
 
   pub fitting-fits : Fitting r n k c o → readingsFit r n k c o ≡ Fits
   unfolding readingsFit

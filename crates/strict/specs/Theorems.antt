@@ -1,0 +1,87 @@
+-- What the check of a record and the upgrade add up to. Demand 3, for one record.
+use Prim.Native.Nat.{ℕ, _<_}
+use mathlib.Core.Path.{_≡_, refl, sym, ap, _∙_}
+use lib.IntN.{ℤ, pos, negℤ}
+use mir.Syntax.{w8}
+use mir.Val.{SFits}
+use Rattle.refusal.specs.declared.Refusal.{Refusal}
+use Rattle.refusal.specs.declared.Refusal.the-variants.{ReturnNumber, NumberOfReturns, Class, Channel, Overlap, Angle}
+use Rattle.flags.specs.declared.Flags.{Flags}
+use Rattle.flags.specs.declared.Flags.the-variants.{TwoByte, ThreeByte}
+use Rattle.flags.specs.declared.TwoBytes.the-variants.{Bytes}
+use Rattle.flags.specs.Readings.{classOf}
+use Rattle.flags.specs.Bytes.{oldBytesOf, twoBytesOf, threeBytesOf}
+use Rattle.angle.specs.declared.ScanAngle.the-variants.{Rank, Scaled}
+use Rattle.angle.specs.Angle.{nearest, nearestRank, held, rankOf, scaledOf, toRank, toScaled}
+use Rattle.angle.specs.Theorems.{nearest-back, rank-kept}
+use Rattle.point.specs.declared.Point.{Point}
+use Rattle.strict.specs.declared.Fit.the-variants.{Fits, Refused}
+use Rattle.strict.specs.Fit.{overlapGoes, readingsFit, flagsFitOf, rankFits, scaledFitOf, angleFitOf, fitOf}
+use Rattle.strict.specs.Upgrade.{upgradedFlags, upgradedOld, upgradedOf}
+use Rattle.strict.specs.Shown.{Shown, Down, Whole, exactRank, nirNumber}
+use Rattle.strict.specs.Laws.{not-refused, fits-down, shown-fits}
+use Rattle.strict.specs.Whole.{angle-exact, exact-fits, nir-none, none-fits, fit-parts, parts-fit}
+use Rattle.strict.specs.Back.{upgraded-shown, shown-bytes}
+
+-- "made strictly into its paired old format shows an old reader, in every record, the same value in every field, scan angle to
+-- the nearest whole degree with halves away from zero": flags, near infrared and angle; the other fields are copied.
+pub fits-whole : (p : Point) → fitOf p ≡ Fits → Whole p
+fits-whole p e =
+    let fit = fit-parts p e in
+    record {
+      flags = fits-down (p .flags) (fit .0);
+      nir = nir-none (p .nir) (fit .1);
+      angle = angle-exact (p .«scan_angle») (fit .2);
+    }
+
+-- "it is refused only then": a refused point has no two bytes that show its flags whole to both old readers, or near infrared,
+-- or no rank that is its nearest whole degree.
+pub refused-only-then : (p : Point) (why : Refusal) → fitOf p ≡ Refused why → (x y : ℕ) (r : ℤ) → Shown (p .flags) (TwoByte x y) → nirNumber (p .nir) ≡ 0 → SFits w8 r → r ≡ exactRank (p .«scan_angle») → ⊥
+refused-only-then p why e x y r s n h a =
+    not-refused why (sym e ∙ parts-fit p (shown-fits (p .flags) x y s) (none-fits (p .nir) n) (exact-fits (p .«scan_angle») r h a))
+
+-- "An old record with a pair, whose class isn't 28 .., brought up and strictly down again, has its own bytes": its point fits, and
+-- its flags and its rank come back.
+module _ (p : Point) (a b : ℕ) (old : p .flags ≡ TwoByte a b) (not-28 : classOf (TwoByte a b) ≡ 28 → ⊥) where
+  pub flags-back : a < 256 → b < 256 → twoBytesOf (upgradedOf p .flags) ≡ Bytes a b
+  unfolding upgradedOf upgradedOld upgradedFlags
+  flags-back h l = rw old (shown-bytes _ _ _ a b h l (upgraded-shown a b not-28))
+
+  module _ (r : ℤ) (rank : p .«scan_angle» ≡ Rank r) (h : SFits w8 r) where
+    pub upgraded-fits : fitOf (upgradedOf p) ≡ Fits
+    unfolding upgradedOf upgradedOld
+    upgraded-fits =
+        rw old (parts-fit (upgradedOld p a b) (shown-fits (upgradedFlags (TwoByte a b)) a b (upgraded-shown a b not-28)) refl
+        (exact-fits (Scaled (toScaled (p .«scan_angle»))) r h (rw (rank, nearest-back r))))
+
+    pub rank-back : toRank (upgradedOf p .«scan_angle») ≡ r
+    unfolding upgradedOf upgradedOld
+    rank-back = rw (old, rank) (rank-kept r h)
+
+-- Document 01's numbers, "P: proved together, one list, one statement about the definitions".
+pub worked :
+    -- "P scaled 249 to 1, 250 to 2, −250 to −2. P 21,249 to 127. P 21,250 to 127 plainly, 21 strictly. P −21,416 to −128;
+    -- −21,417 strictly 21"
+    (toRank (Scaled (pos 249)) ≡ pos 1)
+    × (toRank (Scaled (pos 250)) ≡ pos 2)
+    × (toRank (Scaled (negℤ (pos 250))) ≡ negℤ (pos 2))
+    × (toRank (Scaled (pos 21249)) ≡ pos 127) × (angleFitOf (Scaled (pos 21249)) ≡ Fits)
+    × (toRank (Scaled (pos 21250)) ≡ pos 127) × (angleFitOf (Scaled (pos 21250)) ≡ Refused (Angle 21250))
+    × (toRank (Scaled (negℤ (pos 21416))) ≡ negℤ (pos 128)) × (angleFitOf (Scaled (negℤ (pos 21416))) ≡ Fits)
+    × (angleFitOf (Scaled (negℤ (pos 21417))) ≡ Refused (Angle 44119))
+    -- "P rank 1 to 166, 3 to 500, −128 to −21,333"
+    × (toScaled (Rank (pos 1)) ≡ pos 166)
+    × (toScaled (Rank (pos 3)) ≡ pos 500)
+    × (toScaled (Rank (negℤ (pos 128))) ≡ negℤ (pos 21333))
+    -- "P extended (0x11,0,2) to (0x09,0x02). P (0x21,0x48,2) plainly (0x51,0x0C), strictly 19. P (0x11,0x08,12) strictly
+    -- (0x09,0x0C). P (0x11,0,28) plainly (0x09,0x1C), strictly 19"
+    × (twoBytesOf (ThreeByte 0x11 0 2) ≡ Bytes 0x09 0x02) × (flagsFitOf (ThreeByte 0x11 0 2) ≡ Fits)
+    × (twoBytesOf (ThreeByte 0x21 0x48 2) ≡ Bytes 0x51 0x0C) × (flagsFitOf (ThreeByte 0x21 0x48 2) ≡ Refused (Overlap 2))
+    × (twoBytesOf (ThreeByte 0x11 0x08 12) ≡ Bytes 0x09 0x0C) × (flagsFitOf (ThreeByte 0x11 0x08 12) ≡ Fits)
+    × (twoBytesOf (ThreeByte 0x11 0 28) ≡ Bytes 0x09 0x1C) × (flagsFitOf (ThreeByte 0x11 0 28) ≡ Refused (Overlap 28))
+    -- "P old (0x51,0x22): the Rust's three bytes (0x21,0,0x22), upgrade (0x21,0x41,0x02)"
+    × (threeBytesOf (TwoByte 0x51 0x22) ≡ record { a = 0x21; b = 0; c = 0x22 })
+    × (upgradedFlags (TwoByte 0x51 0x22) ≡ ThreeByte 0x21 0x41 0x02)
+unfolding rankOf nearestRank nearest held scaledOf scaledFitOf rankFits twoBytesOf oldBytesOf threeBytesOf flagsFitOf readingsFit overlapGoes upgradedFlags
+worked =
+    (refl, refl, refl, refl, refl, refl, refl, refl, refl, refl, refl, refl, refl, refl, refl, refl, refl, refl, refl, refl, refl, refl, refl)
