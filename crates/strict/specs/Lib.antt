@@ -5,4 +5,5 @@ pub mod Made
 pub mod Laws
 pub mod Whole
 pub mod Back
+pub mod Record
 pub mod Theorems

@@ -23,6 +23,7 @@ pub record OldFirst (x r n : ℕ) (d e : Bool) : Type 0 where
   pub number-of-returns : x / 8 % 8 ≡ n
   pub direction : bit 6 x ≡ d
   pub edge : bit 7 x ≡ e
+  pub small : x < 256
 
 pub old-first : (r n : ℕ) (d e : Bool) → r ≤ 7 → n ≤ 7 → OldFirst (oldFirst r n d e) r n d e
 old-first r n d e h l =
@@ -32,6 +33,7 @@ old-first r n d e h l =
       number-of-returns = omega arith;
       direction = read d (x / 64 % 2) (omega (arith, flag-lt d));
       edge = read e (x / 128 % 2) (omega (arith, flag-lt d, flag-lt e));
+      small = omega (arith, flag-lt d, flag-lt e);
     }
 
 -- byte two of old flags
@@ -41,6 +43,7 @@ pub record OldSecond (y k : ℕ) (s p w : Bool) : Type 0 where
   pub synthetic : bit 5 y ≡ s
   pub key-point : bit 6 y ≡ p
   pub withheld : bit 7 y ≡ w
+  pub small : y < 256
 
 pub old-second : (k : ℕ) (s p w : Bool) → k ≤ 31 → OldSecond (oldSecond k s p w) k s p w
 old-second k s p w h =
@@ -51,15 +54,17 @@ old-second k s p w h =
       synthetic = read s (y / 32 % 2) (omega (arith, flag-lt s));
       key-point = read p (y / 64 % 2) (omega (arith, flag-lt s, flag-lt p));
       withheld = read w (y / 128 % 2) (omega (arith, flag-lt s, flag-lt p, flag-lt w));
+      small = omega (arith, flag-lt s, flag-lt p, flag-lt w);
     }
 
 -- byte one of extended flags
 pub record NewFirst (x r n : ℕ) : Type 0 where
   pub return-number : x % 16 ≡ r
   pub number-of-returns : x / 16 % 16 ≡ n
+  pub small : x < 256
 
 pub new-first : (r n : ℕ) → r ≤ 15 → n ≤ 15 → NewFirst (newFirst r n) r n
-new-first r n h l = record { return-number = omega arith; number-of-returns = omega arith }
+new-first r n h l = record { return-number = omega arith; number-of-returns = omega arith; small = omega arith }
 
 -- byte two of extended flags, its channel 0
 pub record NewSecond (y : ℕ) (s p w o d e : Bool) : Type 0 where
@@ -70,6 +75,7 @@ pub record NewSecond (y : ℕ) (s p w o d e : Bool) : Type 0 where
   pub channel : y / 16 % 4 ≡ 0
   pub direction : bit 6 y ≡ d
   pub edge : bit 7 y ≡ e
+  pub small : y < 256
 
 pub new-second : (s p w o d e : Bool) → NewSecond (newSecond s p w o 0 d e) s p w o d e
 new-second s p w o d e =
@@ -82,4 +88,5 @@ new-second s p w o d e =
       channel = omega (arith, flag-lt s, flag-lt p, flag-lt w, flag-lt o);
       direction = read d (y / 64 % 2) (omega (arith, flag-lt s, flag-lt p, flag-lt w, flag-lt o, flag-lt d));
       edge = read e (y / 128 % 2) (omega (arith, flag-lt s, flag-lt p, flag-lt w, flag-lt o, flag-lt d, flag-lt e));
+      small = omega (arith, flag-lt s, flag-lt p, flag-lt w, flag-lt o, flag-lt d, flag-lt e);
     }

@@ -2,7 +2,11 @@
 -- standard's both".
 use Prim.Native.Nat.{ℕ}
 use mathlib.Core.Path.{_≡_}
+use mathlib.Core.Bool.{true, false}
+use mathlib.Core.List.{List}
 use lib.IntN.{ℤ}
+use Rattle.format.specs.declared.Format.{Format}
+use Rattle.format.specs.declared.Field.the-variants.{ExtraBytes}
 use Rattle.flags.specs.declared.Flags.{Flags}
 use Rattle.flags.specs.declared.Flags.the-variants.{TwoByte}
 use Rattle.flags.specs.declared.TwoBytes.the-variants.{Bytes}
@@ -10,10 +14,13 @@ use Rattle.flags.specs.Readings.{returnNumberOf, numberOfReturnsOf, directionOf
 use Rattle.flags.specs.Bytes.{twoBytesOf}
 use Rattle.angle.specs.declared.ScanAngle.{ScanAngle}
 use Rattle.angle.specs.declared.ScanAngle.the-variants.{Rank, Scaled}
-use Rattle.angle.specs.Angle.{nearestRank, toRank}
+use Rattle.angle.specs.Angle.{nearestRank}
 use Rattle.point.specs.declared.MaybeNir.{MaybeNir}
 use Rattle.point.specs.declared.MaybeNir.the-variants.{Some, None}
 use Rattle.point.specs.declared.Point.{Point}
+use Rattle.point.specs.Read.{fieldOf, pointOf}
+use Rattle.point_write.specs.Write.{recordOf}
+use Rattle.strict.specs.Upgrade.{upgradedOf}
 
 -- g says in every reading what f says; overlap by the Rust's reading of g and by the standard's
 pub record Shown (f g : Flags) : Type 0 where
@@ -46,8 +53,34 @@ abbrev pub nirNumber : MaybeNir → ℕ
 nirNumber (Some n) = n
 nirNumber None = 0
 
--- what the plain conversion makes of a point's flags and angle shows them whole, and no near infrared is lost
-pub record Whole (p : Point) : Type 0 where
-  pub flags : Down (p .flags)
-  pub nir : nirNumber (p .nir) ≡ 0
-  pub angle : toRank (p .«scan_angle») ≡ exactRank (p .«scan_angle»)
+-- "the same value in every field": q is what an old reader finds of p
+pub record Same (p q : Point) : Type 0 where
+  pub x : q .x ≡ p .x
+  pub y : q .y ≡ p .y
+  pub z : q .z ≡ p .z
+  pub intensity : q .intensity ≡ p .intensity
+  pub flags : Shown (p .flags) (q .flags)
+  pub «scan_angle» : q .«scan_angle» ≡ Rank (exactRank (p .«scan_angle»))
+  pub «user_data» : q .«user_data» ≡ p .«user_data»
+  pub «point_source_id» : q .«point_source_id» ≡ p .«point_source_id»
+  pub «gps_time» : q .«gps_time» ≡ p .«gps_time»
+  pub color : q .color ≡ p .color
+  pub waveform : q .waveform ≡ p .waveform
+  pub nir : nirNumber (q .nir) ≡ nirNumber (p .nir)
+
+-- a new format and the old one of its pair: the same but for their kind, the near infrared and nothing else
+pub record Paired (new old : Format) : Type 0 where
+  pub is-new : new .«is_extended» ≡ true
+  pub is-old : old .«is_extended» ≡ false
+  pub time : new .«has_gps_time» ≡ old .«has_gps_time»
+  pub color : new .«has_color» ≡ old .«has_color»
+  pub waveform : new .«has_waveform» ≡ old .«has_waveform»
+  pub no-nir : old .«has_nir» ≡ false
+  pub extra : new .«extra_bytes» ≡ old .«extra_bytes»
+
+-- the bytes that stand for the record s in the other format of a pair: its point's, and its extra bytes
+abbrev pub downImage : Format → Format → List ℕ → List ℕ
+downImage new old s = recordOf old (pointOf new s) (fieldOf new ExtraBytes s)
+
+abbrev pub upImage : Format → Format → List ℕ → List ℕ
+upImage old new s = recordOf new (upgradedOf (pointOf old s)) (fieldOf old ExtraBytes s)

@@ -1,62 +1,48 @@
 -- What the check of a record and the upgrade add up to. Demand 3, for one record.
-use Prim.Native.Nat.{ℕ, _<_}
-use mathlib.Core.Path.{_≡_, refl, sym, ap, _∙_}
+use Prim.Native.Nat.{ℕ, _≤_}
+use mathlib.Core.Path.{_≡_, refl, sym, _∙_}
+use mathlib.Core.List.{List, _++_}
 use lib.IntN.{ℤ, pos, negℤ}
+use lib.ListN.{length, take}
 use mir.Syntax.{w8}
 use mir.Val.{SFits}
 use Rattle.refusal.specs.declared.Refusal.{Refusal}
-use Rattle.refusal.specs.declared.Refusal.the-variants.{ReturnNumber, NumberOfReturns, Class, Channel, Overlap, Angle}
-use Rattle.flags.specs.declared.Flags.{Flags}
+use Rattle.refusal.specs.declared.Refusal.the-variants.{Overlap, Angle}
+use Rattle.le.specs.Le as le
+use Rattle.format.specs.declared.Format.{Format}
+use Rattle.format.specs.declared.Field.the-variants.{ExtraBytes}
+use Rattle.format.specs.Fields.{recordBytes}
 use Rattle.flags.specs.declared.Flags.the-variants.{TwoByte, ThreeByte}
 use Rattle.flags.specs.declared.TwoBytes.the-variants.{Bytes}
 use Rattle.flags.specs.Readings.{classOf}
 use Rattle.flags.specs.Bytes.{oldBytesOf, twoBytesOf, threeBytesOf}
 use Rattle.angle.specs.declared.ScanAngle.the-variants.{Rank, Scaled}
 use Rattle.angle.specs.Angle.{nearest, nearestRank, held, rankOf, scaledOf, toRank, toScaled}
-use Rattle.angle.specs.Theorems.{nearest-back, rank-kept}
 use Rattle.point.specs.declared.Point.{Point}
+use Rattle.point.specs.Read.{fieldOf, pointOf}
 use Rattle.strict.specs.declared.Fit.the-variants.{Fits, Refused}
 use Rattle.strict.specs.Fit.{overlapGoes, readingsFit, flagsFitOf, rankFits, scaledFitOf, angleFitOf, fitOf}
-use Rattle.strict.specs.Upgrade.{upgradedFlags, upgradedOld, upgradedOf}
-use Rattle.strict.specs.Shown.{Shown, Down, Whole, exactRank, nirNumber}
-use Rattle.strict.specs.Laws.{not-refused, fits-down, shown-fits}
-use Rattle.strict.specs.Whole.{angle-exact, exact-fits, nir-none, none-fits, fit-parts, parts-fit}
-use Rattle.strict.specs.Back.{upgraded-shown, shown-bytes}
+use Rattle.strict.specs.Upgrade.{upgradedFlags}
+use Rattle.strict.specs.Shown.{Shown, Same, Paired, downImage, upImage, exactRank, nirNumber}
+use Rattle.strict.specs.Laws.{not-refused, shown-fits}
+use Rattle.strict.specs.Whole.{exact-fits, none-fits, parts-fit}
+use Rattle.strict.specs.Record.{image-same, image-back}
 
--- "made strictly into its paired old format shows an old reader, in every record, the same value in every field, scan angle to
--- the nearest whole degree with halves away from zero": flags, near infrared and angle; the other fields are copied.
-pub fits-whole : (p : Point) → fitOf p ≡ Fits → Whole p
-fits-whole p e =
-    let fit = fit-parts p e in
-    record {
-      flags = fits-down (p .flags) (fit .0);
-      nir = nir-none (p .nir) (fit .1);
-      angle = angle-exact (p .«scan_angle») (fit .2);
-    }
+module _ (new old : Format) (pair : Paired new old) (s : List ℕ) (all : le.Bytes s) (rest : List ℕ) where
+  -- "records made strictly into [their] paired old format [show] an old reader, in every record, the same value in every field,
+  -- scan angle to the nearest whole degree with halves away from zero", whatever stands after the record; and the same extra bytes.
+  pub shown-the-same : recordBytes new ≤ length s → fitOf (pointOf new s) ≡ Fits → Same (pointOf new s) (pointOf old (downImage new old s ++ rest)) × (fieldOf old ExtraBytes (downImage new old s ++ rest) ≡ fieldOf new ExtraBytes s)
+  shown-the-same = image-same new old pair s all rest
+
+  -- "An old record with a pair, whose class isn't 28 .., brought up and strictly down again, has its own bytes."
+  pub up-and-down : recordBytes old ≤ length s → (classOf (pointOf old s .flags) ≡ 28 → ⊥) → (fitOf (pointOf new (upImage old new s ++ rest)) ≡ Fits) × (downImage new old (upImage old new s ++ rest) ≡ take (recordBytes old) s)
+  up-and-down = image-back new old pair s all rest
 
 -- "it is refused only then": a refused point has no two bytes that show its flags whole to both old readers, or near infrared,
 -- or no rank that is its nearest whole degree.
 pub refused-only-then : (p : Point) (why : Refusal) → fitOf p ≡ Refused why → (x y : ℕ) (r : ℤ) → Shown (p .flags) (TwoByte x y) → nirNumber (p .nir) ≡ 0 → SFits w8 r → r ≡ exactRank (p .«scan_angle») → ⊥
 refused-only-then p why e x y r s n h a =
     not-refused why (sym e ∙ parts-fit p (shown-fits (p .flags) x y s) (none-fits (p .nir) n) (exact-fits (p .«scan_angle») r h a))
-
--- "An old record with a pair, whose class isn't 28 .., brought up and strictly down again, has its own bytes": its point fits, and
--- its flags and its rank come back.
-module _ (p : Point) (a b : ℕ) (old : p .flags ≡ TwoByte a b) (not-28 : classOf (TwoByte a b) ≡ 28 → ⊥) where
-  pub flags-back : a < 256 → b < 256 → twoBytesOf (upgradedOf p .flags) ≡ Bytes a b
-  unfolding upgradedOf upgradedOld upgradedFlags
-  flags-back h l = rw old (shown-bytes _ _ _ a b h l (upgraded-shown a b not-28))
-
-  module _ (r : ℤ) (rank : p .«scan_angle» ≡ Rank r) (h : SFits w8 r) where
-    pub upgraded-fits : fitOf (upgradedOf p) ≡ Fits
-    unfolding upgradedOf upgradedOld
-    upgraded-fits =
-        rw old (parts-fit (upgradedOld p a b) (shown-fits (upgradedFlags (TwoByte a b)) a b (upgraded-shown a b not-28)) refl
-        (exact-fits (Scaled (toScaled (p .«scan_angle»))) r h (rw (rank, nearest-back r))))
-
-    pub rank-back : toRank (upgradedOf p .«scan_angle») ≡ r
-    unfolding upgradedOf upgradedOld
-    rank-back = rw (old, rank) (rank-kept r h)
 
 -- Document 01's numbers, "P: proved together, one list, one statement about the definitions".
 pub worked :
