@@ -3,9 +3,8 @@ use Prim.Native.Nat.{ℕ, _+_, _*_, _/_, _%_, _<_}
 use mathlib.Core.Path.{_≡_}
 use mathlib.Core.Bool.{Bool}
 use native.Mathlib.Omega.{arith}
-use lib.Dec.{eqb}
 use Rattle.flags.specs.declared.Flags.{Flags}
-use Rattle.flags.specs.declared.Flags.the-variants.{TwoByte, ThreeByte}
+use Rattle.flags.specs.declared.Flags.the-variants.{ThreeByte}
 use Rattle.flags.specs.Readings.{bit}
 use Rattle.flags.specs.Bytes.{flag}
 use Rattle.flags.specs.Theorems.{cut}

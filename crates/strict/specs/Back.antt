@@ -1,5 +1,5 @@
 -- Old flags brought up, and down again.
-use Prim.Native.Nat.{ℕ, _+_, _*_, _/_, _%_, _<_}
+use Prim.Native.Nat.{ℕ, _/_, _%_, _<_}
 use mathlib.Core.Path.{_≡_, refl, ap, sym, _∙_}
 use mathlib.Core.Bool.{Bool, true, false, cond}
 use native.Mathlib.Omega.{arith}
@@ -7,13 +7,12 @@ use lib.Dec.{eqb}
 use lib.IntN.{ℤ}
 use mir.Syntax.{w8}
 use mir.Val.{SFits}
-use Rattle.flags.specs.declared.Flags.{Flags}
 use Rattle.flags.specs.declared.Flags.the-variants.{TwoByte, ThreeByte}
 use Rattle.flags.specs.declared.ScanDirection.{ScanDirection}
 use Rattle.flags.specs.declared.ScanDirection.the-variants.{RightToLeft, LeftToRight}
 use Rattle.flags.specs.declared.TwoBytes.the-variants.{Bytes}
-use Rattle.flags.specs.Readings.{bit, directionBit, directionOf, classOf}
-use Rattle.flags.specs.Bytes.{flag, oldFirst, oldSecond, twoBytesOf}
+use Rattle.flags.specs.Readings.{bit, classOf}
+use Rattle.flags.specs.Bytes.{oldFirst, oldSecond, twoBytesOf}
 use Rattle.flags.specs.Theorems.{old-first-whole, old-second-whole, readings-agree}
 use Rattle.flags.proofs.Moved.{flag-bit}
 use Rattle.angle.specs.declared.ScanAngle.the-variants.{Rank, Scaled}

@@ -1,5 +1,5 @@
 -- When flags fit, what the old bytes then read, and that nothing else could be read.
-use Prim.Native.Nat.{ℕ, _+_, _*_, _/_, _%_, _<_, _≤_}
+use Prim.Native.Nat.{ℕ, _%_, _≤_}
 use mathlib.Core.Path.{_≡_, refl, ap, sym, _∙_}
 use mathlib.Core.Bool.{Bool, true, false, not, cond, _&&_}
 use native.Mathlib.Omega.{arith}
@@ -8,16 +8,15 @@ use lib.Dec.{eqb, ltb}
 use Rattle.refusal.specs.declared.Refusal.{Refusal}
 use Rattle.flags.specs.declared.Flags.{Flags}
 use Rattle.flags.specs.declared.Flags.the-variants.{TwoByte, ThreeByte}
-use Rattle.flags.specs.declared.ScanDirection.{ScanDirection}
 use Rattle.flags.specs.declared.ScanDirection.the-variants.{RightToLeft, LeftToRight}
 use Rattle.flags.specs.declared.TwoBytes.the-variants.{Bytes}
-use Rattle.flags.specs.Readings.{bit, returnNumberOf, numberOfReturnsOf, directionBit, directionOf, edgeOf, classOf, syntheticOf, keyPointOf, withheldOf, overlapOf, standardOverlapOf, channelOf}
+use Rattle.flags.specs.Readings.{returnNumberOf, numberOfReturnsOf, directionBit, edgeOf, classOf, syntheticOf, keyPointOf, withheldOf, overlapOf, channelOf}
 use Rattle.flags.specs.Bytes.{flag, oldFirst, oldSecond, oldBytesOf, twoBytesOf}
 use Rattle.strict.specs.declared.Fit.{Fit}
 use Rattle.strict.specs.declared.Fit.the-variants.{Fits, Refused}
 use Rattle.strict.specs.Fit.{overlapGoes, readingsFit, flagsFitOf}
 use Rattle.strict.specs.Shown.{Shown, Down}
-use Rattle.strict.specs.Made.{OldFirst, old-first, OldSecond, old-second}
+use Rattle.strict.specs.Made.{old-first, old-second}
 
 -- a refusal is no fit
 pub not-refused : {A : Type 0} (r : Refusal) → Refused r ≡ Fits → A

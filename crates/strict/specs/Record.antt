@@ -1,5 +1,5 @@
 -- What an old record is read as, of a point that fits; and an old point brought up and written down again.
-use Prim.Native.Nat.{ℕ, _+_, _*_, _/_, _%_, _<_, _≤_, _^_}
+use Prim.Native.Nat.{ℕ, _+_, _*_, _/_, _<_, _≤_}
 use mathlib.Core.Path.{_≡_, refl, ap, sym, subst, _∙_}
 use mathlib.Core.Bool.{Bool, true, false, cond}
 use mathlib.Core.List.{List, _++_}
@@ -22,12 +22,9 @@ use Rattle.flags.specs.Readings.{returnNumberOf, numberOfReturnsOf, directionBi
 use Rattle.flags.specs.Bytes.{twoBytesOf}
 use Rattle.angle.specs.declared.ScanAngle as angle
 use Rattle.angle.specs.declared.ScanAngle.the-variants.{Rank, Scaled}
-use Rattle.angle.specs.Angle.{held, rankOf, scaledOf, toRank, toScaled}
+use Rattle.angle.specs.Angle.{held, rankOf, toRank, toScaled}
 use Rattle.angle.specs.Sign.{scaled-size, sided-fits}
 use Rattle.angle.specs.Theorems.{rank-kept}
-use Rattle.point.specs.declared.MaybeTime.{MaybeTime}
-use Rattle.point.specs.declared.MaybeColor.{MaybeColor}
-use Rattle.point.specs.declared.MaybeWaveform.{MaybeWaveform}
 use Rattle.point.specs.declared.MaybeNir.{MaybeNir}
 use Rattle.point.specs.declared.MaybeNir.the-variants.{Some, None}
 use Rattle.point.specs.declared.Point.{Point}
@@ -39,9 +36,9 @@ use Rattle.point_write.specs.Theorems.{read-then-written, read-is-held, written
 use Rattle.strict.specs.declared.Fit.the-variants.{Fits}
 use Rattle.strict.specs.Fit.{flagsFitOf, fitOf}
 use Rattle.strict.specs.Upgrade.{upgradedFlags, upgradedOld, upgradedOf}
-use Rattle.strict.specs.Shown.{Down, Same, Paired, downImage, upImage}
+use Rattle.strict.specs.Shown.{Same, Paired, downImage, upImage}
 use Rattle.strict.specs.Made.{old-first, old-second}
-use Rattle.strict.specs.Laws.{Fitting, fitting, bytes-of-fitting, fits-down}
+use Rattle.strict.specs.Laws.{fitting, bytes-of-fitting, fits-down}
 use Rattle.strict.specs.Whole.{fit-parts, angle-exact, nir-none}
 use Rattle.strict.specs.Back.{upgraded-held, upgraded-bytes, upgraded-fits}
 

@@ -1,14 +1,16 @@
 -- When a point goes into an old record whole, field by field, and the point that it is brought up from.
-use Prim.Native.Nat.{ℕ, _≤_}
-use mathlib.Core.Path.{_≡_, refl, ap, sym, _∙_}
+use Prim.Native.Nat.{ℕ}
+use mathlib.Core.Path.{_≡_, refl}
 use mathlib.Core.Bool.{Bool, true, false, not, cond, _&&_}
 use native.Mathlib.Omega.{arith}
 use borrow.Author.Tests.{le-ltb, eqb-true, eq-eqb}
 use lib.Dec.{eqb}
-use lib.IntN.{ℤ, pos, negsuc, negℤ}
+use lib.IntN.{ℤ, pos, negsuc}
 use lib.Signed.{ltZ}
 use mir.Syntax.{w8}
 use mir.Val.{SFits}
+use Rattle.flags.specs.declared.TwoBytes.the-variants.{Bytes}
+use Rattle.flags.specs.Bytes.{twoBytesOf}
 use Rattle.angle.specs.declared.ScanAngle.{ScanAngle}
 use Rattle.angle.specs.declared.ScanAngle.the-variants.{Rank, Scaled}
 use Rattle.angle.specs.Angle.{nearestRank, held, rankOf, toRank}
@@ -18,7 +20,7 @@ use Rattle.point.specs.declared.Point.{Point}
 use Rattle.strict.specs.declared.Fit.{Fit}
 use Rattle.strict.specs.declared.Fit.the-variants.{Fits, Refused}
 use Rattle.strict.specs.Fit.{firstOf, flagsFitOf, nirFitOf, rankFits, scaledFitOf, angleFitOf, fitOf}
-use Rattle.strict.specs.Laws.{not-refused, only-fits}
+use Rattle.strict.specs.Laws.{not-refused, only-fits, fits-down}
 use Rattle.strict.specs.Shown.{exactRank, nirNumber}
 
 -- ranks that need not be held
@@ -71,3 +73,9 @@ fit-parts p e =
 pub parts-fit : (p : Point) → flagsFitOf (p .flags) ≡ Fits → nirFitOf (p .nir) ≡ Fits → angleFitOf (p .«scan_angle») ≡ Fits → fitOf p ≡ Fits
 unfolding fitOf
 parts-fit p f n a = rw (f, n, a)
+
+-- a point that fits has two bytes of flags
+pub fits-two : (p : Point) → fitOf p ≡ Fits → (a : ℕ) × (b : ℕ) × (twoBytesOf (p .flags) ≡ Bytes a b)
+fits-two p e =
+    let two = fits-down (p .flags) (fit-parts p e .0) in
+    (two .first, two .second, two .bytes)

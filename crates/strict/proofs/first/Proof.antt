@@ -1,6 +1,4 @@
-use mathlib.Core.Path.{sym, ap}
 use borrow.Author.Needs.{needs}
-use Rattle.strict.specs.Fit.{firstOf}
 use Rattle.strict.proofs.first.Statement.{statement}
 use Rattle.strict.proofs.first.Tie as tie
 
