@@ -5,8 +5,12 @@ use mathlib.Core.Path.{_≡_}
 use mathlib.Core.Bool.{true, false}
 use mathlib.Core.List.{List}
 use lib.IntN.{ℤ}
+use mir.Syntax.{w8, w16}
+use mir.Val.{SFits, ofZ}
 use Rattle.format.specs.declared.Format.{Format}
 use Rattle.format.specs.declared.Field.the-variants.{ExtraBytes}
+use Rattle.refusal.specs.declared.Refusal.{Refusal}
+use Rattle.refusal.specs.declared.Refusal.the-variants.{ReturnNumber, NumberOfReturns, Class, Channel, Overlap, Nir, Angle}
 use Rattle.flags.specs.declared.Flags.{Flags}
 use Rattle.flags.specs.declared.Flags.the-variants.{TwoByte}
 use Rattle.flags.specs.declared.TwoBytes.the-variants.{Bytes}
@@ -14,7 +18,7 @@ use Rattle.flags.specs.Readings.{returnNumberOf, numberOfReturnsOf, directionOf
 use Rattle.flags.specs.Bytes.{twoBytesOf}
 use Rattle.angle.specs.declared.ScanAngle.{ScanAngle}
 use Rattle.angle.specs.declared.ScanAngle.the-variants.{Rank, Scaled}
-use Rattle.angle.specs.Angle.{nearestRank}
+use Rattle.angle.specs.Angle.{nearestRank, toScaled}
 use Rattle.point.specs.declared.MaybeNir.{MaybeNir}
 use Rattle.point.specs.declared.MaybeNir.the-variants.{Some, None}
 use Rattle.point.specs.declared.Point.{Point}
@@ -67,6 +71,17 @@ pub record Same (p q : Point) : Type 0 where
   pub color : q .color ≡ p .color
   pub waveform : q .waveform ≡ p .waveform
   pub nir : nirNumber (q .nir) ≡ nirNumber (p .nir)
+
+-- What a refusal names, with its value: a reading that no two bytes have; the class, where no two bytes have it with the overlap
+-- that is said, as both old readers take it; near infrared; an angle whose nearest whole degree is no rank.
+pub data Unshown (p : Point) : Refusal → Type 0 where
+  return-number : ((x y : ℕ) → returnNumberOf (TwoByte x y) ≡ returnNumberOf (p .flags) → ⊥) → Unshown p (ReturnNumber (returnNumberOf (p .flags)))
+  number-of-returns : ((x y : ℕ) → numberOfReturnsOf (TwoByte x y) ≡ numberOfReturnsOf (p .flags) → ⊥) → Unshown p (NumberOfReturns (numberOfReturnsOf (p .flags)))
+  class : ((x y : ℕ) → classOf (TwoByte x y) ≡ classOf (p .flags) → ⊥) → Unshown p (Class (classOf (p .flags)))
+  channel : ((x y : ℕ) → channelOf (TwoByte x y) ≡ channelOf (p .flags) → ⊥) → Unshown p (Channel (channelOf (p .flags)))
+  overlap : ((x y : ℕ) → classOf (TwoByte x y) ≡ classOf (p .flags) → overlapOf (TwoByte x y) ≡ overlapOf (p .flags) → standardOverlapOf (TwoByte x y) ≡ overlapOf (p .flags) → ⊥) → Unshown p (Overlap (classOf (p .flags)))
+  nir : (nirNumber (p .nir) ≡ 0 → ⊥) → Unshown p (Nir (nirNumber (p .nir)))
+  angle : ((r : ℤ) → SFits w8 r → r ≡ exactRank (p .«scan_angle») → ⊥) → Unshown p (Angle (ofZ w16 (toScaled (p .«scan_angle»))))
 
 -- a new format and the old one of its pair: the same but for their kind, the near infrared and nothing else
 pub record Paired (new old : Format) : Type 0 where

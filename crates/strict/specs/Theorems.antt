@@ -1,11 +1,9 @@
 -- What the check of a record and the upgrade add up to. Demand 3, for one record.
 use Prim.Native.Nat.{ℕ, _≤_}
-use mathlib.Core.Path.{_≡_, refl, sym, _∙_}
+use mathlib.Core.Path.{_≡_, refl}
 use mathlib.Core.List.{List, _++_}
-use lib.IntN.{ℤ, pos, negℤ}
+use lib.IntN.{pos, negℤ}
 use lib.ListN.{length, take}
-use mir.Syntax.{w8}
-use mir.Val.{SFits}
 use Rattle.refusal.specs.declared.Refusal.{Refusal}
 use Rattle.refusal.specs.declared.Refusal.the-variants.{Overlap, Angle}
 use Rattle.le.specs.Le as le
@@ -23,9 +21,8 @@ use Rattle.point.specs.Read.{fieldOf, pointOf}
 use Rattle.strict.specs.declared.Fit.the-variants.{Fits, Refused}
 use Rattle.strict.specs.Fit.{overlapGoes, readingsFit, flagsFitOf, rankFits, scaledFitOf, angleFitOf, fitOf}
 use Rattle.strict.specs.Upgrade.{upgradedFlags}
-use Rattle.strict.specs.Shown.{Shown, Same, Paired, downImage, upImage, exactRank, nirNumber}
-use Rattle.strict.specs.Laws.{not-refused, shown-fits}
-use Rattle.strict.specs.Whole.{exact-fits, none-fits, parts-fit}
+use Rattle.strict.specs.Shown.{Same, Unshown, Paired, downImage, upImage}
+use Rattle.strict.specs.Named.{refusal-named}
 use Rattle.strict.specs.Record.{image-same, image-back}
 
 module _ (new old : Format) (pair : Paired new old) (s : List ℕ) (all : le.Bytes s) (rest : List ℕ) where
@@ -38,11 +35,9 @@ module _ (new old : Format) (pair : Paired new old) (s : List ℕ) (all : le.Byt
   pub up-and-down : recordBytes old ≤ length s → (classOf (pointOf old s .flags) ≡ 28 → ⊥) → (fitOf (pointOf new (upImage old new s ++ rest)) ≡ Fits) × (downImage new old (upImage old new s ++ rest) ≡ take (recordBytes old) s)
   up-and-down = image-back new old pair s all rest
 
--- "it is refused only then": a refused point has no two bytes that show its flags whole to both old readers, or near infrared,
--- or no rank that is its nearest whole degree.
-pub refused-only-then : (p : Point) (why : Refusal) → fitOf p ≡ Refused why → (x y : ℕ) (r : ℤ) → Shown (p .flags) (TwoByte x y) → nirNumber (p .nir) ≡ 0 → SFits w8 r → r ≡ exactRank (p .«scan_angle») → ⊥
-refused-only-then p why e x y r s n h a =
-    not-refused why (sym e ∙ parts-fit p (shown-fits (p .flags) x y s) (none-fits (p .nir) n) (exact-fits (p .«scan_angle») r h a))
+-- "Otherwise the .. first field that doesn't fit [is] named; it is refused only then": what is named, no old record can show.
+pub refused-only-then : (p : Point) (why : Refusal) → fitOf p ≡ Refused why → Unshown p why
+refused-only-then = refusal-named
 
 -- Document 01's numbers, "P: proved together, one list, one statement about the definitions".
 pub worked :

@@ -3,7 +3,7 @@ use Prim.Native.Nat.{ℕ}
 use mathlib.Core.Path.{_≡_, refl}
 use mathlib.Core.Bool.{Bool, true, false, not, cond, _&&_}
 use native.Mathlib.Omega.{arith}
-use borrow.Author.Tests.{le-ltb, eqb-true, eq-eqb}
+use borrow.Author.Tests.{le-ltb, eqb-true}
 use lib.Dec.{eqb}
 use lib.IntN.{ℤ, pos, negsuc}
 use lib.Signed.{ltZ}
@@ -53,10 +53,6 @@ exact-fits (Scaled n) r h e = rw (← e, rank-fits r h)
 pub nir-none : (n : MaybeNir) → nirFitOf n ≡ Fits → nirNumber n ≡ 0
 nir-none (Some n) e = eqb-true n 0 (only-fits (eqb n 0) _ e)
 nir-none None e = refl
-
-pub none-fits : (n : MaybeNir) → nirNumber n ≡ 0 → nirFitOf n ≡ Fits
-none-fits (Some n) e = rw (eq-eqb n 0 e)
-none-fits None e = refl
 
 -- a point fits where its flags, its near infrared and its angle do
 both-fit : (f g : Fit) → firstOf f g ≡ Fits → (f ≡ Fits) × (g ≡ Fits)
