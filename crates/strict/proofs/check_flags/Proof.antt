@@ -1,6 +1,5 @@
-use mathlib.Core.Path.{_∙_}
 use borrow.Author.Needs.{needs}
-use Rattle.strict.specs.Fit.{readingsFit, flagsFitOf}
+use Rattle.strict.specs.Fit.{flagsFitOf}
 use Rattle.strict.proofs.check_flags.Statement.{statement}
 use Rattle.strict.proofs.check_flags.Tie as tie
 
@@ -13,8 +12,7 @@ returns c =
     let k = h .before in
     let n = k .before in
     let r = n .before in
-    c .check-readings .ensures
-    ∙ (λ i. readingsFit (r .return-number .ensures i) (n .number-of-returns .ensures i) (k .class .ensures i) (h .scanner-channel .ensures i) (o .is-overlap .ensures i))
+    rw (c .check-readings .ensures, r .return-number .ensures, n .number-of-returns .ensures, k .class .ensures, h .scanner-channel .ensures, o .is-overlap .ensures)
 
 pub check-flags-spec : {M : Type 1} → statement M
 check-flags-spec =
