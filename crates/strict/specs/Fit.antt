@@ -1,0 +1,64 @@
+-- Document 01, "Strict conversion", for one record: "Then records in turn, each by: return number above 7; number of returns
+-- above 7; class above 31; channel above 0; overlap set and class not 12, or clear and class 12 or 28; NIR not 0; rank before
+-- holding outside −128 to 127."
+use Prim.Native.Nat.{ℕ}
+use mathlib.Core.Bool.{Bool, true, false, not, cond, _&&_}
+use lib.Dec.{eqb, ltb}
+use lib.IntN.{ℤ, pos, negℤ}
+use lib.Signed.{ltZ}
+use mir.Syntax.{w16}
+use mir.Val.{ofZ}
+use Rattle.refusal.specs.declared.Refusal.the-variants.{ReturnNumber, NumberOfReturns, Class, Channel, Overlap, Nir, Angle}
+use Rattle.flags.specs.declared.Flags.{Flags}
+use Rattle.flags.specs.Readings.{returnNumberOf, numberOfReturnsOf, classOf, channelOf, overlapOf}
+use Rattle.angle.specs.declared.ScanAngle.{ScanAngle}
+use Rattle.angle.specs.declared.ScanAngle.the-variants.{Rank, Scaled}
+use Rattle.angle.specs.Angle.{nearestRank}
+use Rattle.point.specs.declared.MaybeNir.{MaybeNir}
+use Rattle.point.specs.declared.MaybeNir.the-variants.{Some, None}
+use Rattle.point.specs.declared.Point.{Point}
+use Rattle.strict.specs.declared.Fit.{Fit}
+use Rattle.strict.specs.declared.Fit.the-variants.{Fits, Refused}
+
+-- the first of two answers that is a refusal
+abbrev pub firstOf : Fit → Fit → Fit
+firstOf Fits other = other
+firstOf (Refused r) other = Refused r
+
+-- "overlap set and class not 12, or clear and class 12 or 28" does not fit
+unfoldable pub overlapGoes : Bool → ℕ → Bool
+overlapGoes true class = eqb class 12
+overlapGoes false class = not (eqb class 12) && not (eqb class 28)
+
+-- "return number above 7; number of returns above 7; class above 31; channel above 0; overlap .."
+unfoldable pub readingsFit : ℕ → ℕ → ℕ → ℕ → Bool → Fit
+readingsFit returnNumber returns class channel overlap =
+    cond (ltb 7 returnNumber) (Refused (ReturnNumber returnNumber))
+    (cond (ltb 7 returns) (Refused (NumberOfReturns returns))
+    (cond (ltb 31 class) (Refused (Class class))
+    (cond (ltb 0 channel) (Refused (Channel channel)) (cond (overlapGoes overlap class) Fits (Refused (Overlap class))))))
+
+-- of flags of either kind, by what the Rust reads from them
+unfoldable pub flagsFitOf : Flags → Fit
+flagsFitOf f = readingsFit (returnNumberOf f) (numberOfReturnsOf f) (classOf f) (channelOf f) (overlapOf f)
+
+-- "NIR not 0" does not fit; a missing one is 0
+abbrev pub nirFitOf : MaybeNir → Fit
+nirFitOf (Some n) = cond (eqb n 0) Fits (Refused (Nir n))
+nirFitOf None = Fits
+
+-- "rank before holding outside −128 to 127" does not fit
+unfoldable pub rankFits : ℤ → Bool
+rankFits z = not (ltZ z (negℤ (pos 128))) && not (ltZ (pos 127) z)
+
+unfoldable pub scaledFitOf : ℤ → Fit
+scaledFitOf n = cond (rankFits (nearestRank n)) Fits (Refused (Angle (ofZ w16 n)))
+
+-- a rank is an old record's own
+abbrev pub angleFitOf : ScanAngle → Fit
+angleFitOf (Rank r) = Fits
+angleFitOf (Scaled n) = scaledFitOf n
+
+-- the record check, in this order
+unfoldable pub fitOf : Point → Fit
+fitOf p = firstOf (flagsFitOf (p .flags)) (firstOf (nirFitOf (p .nir)) (angleFitOf (p .«scan_angle»)))

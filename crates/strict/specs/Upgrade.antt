@@ -1,0 +1,57 @@
+-- Document 01, "Strict conversion": "Upgrade has none of these record checks: class kept, overlap set exactly for class 12,
+-- channel and NIR 0, the other flags moved."
+use Prim.Native.Nat.{ℕ, _+_, _*_}
+use mathlib.Core.Bool.{Bool}
+use lib.Dec.{eqb}
+use Rattle.flags.specs.declared.Flags.{Flags}
+use Rattle.flags.specs.declared.Flags.the-variants.{TwoByte, ThreeByte}
+use Rattle.flags.specs.Readings.{returnNumberOf, numberOfReturnsOf, directionBit, edgeOf, classOf, syntheticOf, keyPointOf, withheldOf}
+use Rattle.flags.specs.Bytes.{flag}
+use Rattle.angle.specs.declared.ScanAngle.the-variants.{Scaled}
+use Rattle.angle.specs.Angle.{toScaled}
+use Rattle.point.specs.declared.MaybeNir.the-variants.{None}
+use Rattle.point.specs.declared.Point.{Point}
+
+-- byte one of extended flags, from what it says
+abbrev pub newFirst : ℕ → ℕ → ℕ
+newFirst returnNumber returns = returnNumber + 16 * returns
+
+-- byte two of extended flags, from what it says
+abbrev pub newSecond : Bool → Bool → Bool → Bool → ℕ → Bool → Bool → ℕ
+newSecond synthetic key withheld overlap channel direction edge =
+    flag synthetic + 2 * flag key + 4 * flag withheld + 8 * flag overlap + 16 * channel + 64 * flag direction + 128 * flag edge
+
+-- "class kept, overlap set exactly for class 12, channel .. 0, the other flags moved"; extended flags as they are
+unfoldable pub upgradedFlags : Flags → Flags
+upgradedFlags (TwoByte a b) =
+    let f = TwoByte a b in
+    ThreeByte (newFirst (returnNumberOf f) (numberOfReturnsOf f))
+    (newSecond (syntheticOf f) (keyPointOf f) (withheldOf f) (eqb (classOf f) 12) 0 (directionBit f) (edgeOf f))
+    (classOf f)
+upgradedFlags (ThreeByte a b c) = ThreeByte a b c
+
+-- a point with old flags made new: the angle scaled, "NIR 0", which is none, and all else kept
+unfoldable pub upgradedOld : Point → ℕ → ℕ → Point
+upgradedOld p a b =
+    record {
+      x = p .x;
+      y = p .y;
+      z = p .z;
+      intensity = p .intensity;
+      flags = upgradedFlags (TwoByte a b);
+      «scan_angle» = Scaled (toScaled (p .«scan_angle»));
+      «user_data» = p .«user_data»;
+      «point_source_id» = p .«point_source_id»;
+      «gps_time» = p .«gps_time»;
+      color = p .color;
+      waveform = p .waveform;
+      nir = None;
+    }
+
+-- by its flags: a point that has extended ones already is new as it is
+abbrev pub upgradedBy : Point → Flags → Point
+upgradedBy p (TwoByte a b) = upgradedOld p a b
+upgradedBy p (ThreeByte a b c) = p
+
+unfoldable pub upgradedOf : Point → Point
+upgradedOf p = upgradedBy p (p .flags)

@@ -1,0 +1,207 @@
+// One record of the strict conversion and of the upgrade, added by document 01: whether a point can be made old with every
+// field the same, and an old point made new. The bytes are the point writer's.
+ghost use mathlib.Core.Path.{_≡_};
+ghost use Rattle.strict.specs.Fit.{firstOf, overlapGoes, readingsFit, flagsFitOf, nirFitOf, rankFits, scaledFitOf, angleFitOf, fitOf};
+ghost use Rattle.strict.specs.Upgrade.{upgradedFlags, upgradedOld, upgradedOf};
+use angle::ScanAngle;
+use flags::Flags;
+use le::signed;
+use point::MaybeNir;
+use point::Point;
+use refusal::Refusal;
+
+// The class that stands for overlap in two-byte flags, and the one that the Rust takes for it too.
+const OVERLAP_CLASSIFICATION_CODE: u8 = 12;
+
+const READ_AS_OVERLAP_TOO: u8 = 28;
+
+// The ranks that a strict conversion may make.
+const LOWEST_RANK: i16 = -128;
+
+const HIGHEST_RANK: i16 = 127;
+
+// Whether a point goes into the old format with every field the same, or the first field that does not.
+pub enum Fit {
+    Fits,
+    Refused(Refusal),
+}
+
+// Whether every field of a point goes into the old format; the first that does not is refused, in the order return number,
+// number of returns, class, channel, overlap, near infrared, angle.
+pub fn check(point: Point) -> Fit
+    ensures { λ r. ⌜ r ≡ fitOf point ⌝ }
+{
+    let flags = point.flags;
+    let nir = point.nir;
+    let scan_angle = point.scan_angle;
+    let of_flags = check_flags(flags);
+    let of_nir = check_nir(nir);
+    let of_angle = check_angle(scan_angle);
+    first(of_flags, first(of_nir, of_angle))
+}
+
+// An old point made new: the flags moved, the angle scaled, no near infrared. A point with three-byte flags stays as it is.
+pub fn upgraded(point: Point) -> Point
+    ensures { λ r. ⌜ r ≡ upgradedOf point ⌝ }
+{
+    let flags = point.flags;
+    match flags {
+        Flags::TwoByte(a, b) => upgraded_old(point, a, b),
+        Flags::ThreeByte(_, _, _) => point,
+    }
+}
+
+// The first of two answers, or the second where the first fits.
+fn first(one: Fit, other: Fit) -> Fit
+    ensures { λ r. ⌜ r ≡ firstOf one other ⌝ }
+{
+    match one {
+        Fit::Fits => other,
+        Fit::Refused(refusal) => Fit::Refused(refusal),
+    }
+}
+
+// Whether the flags fit, by what they read; so two bytes of class 28 do not, which one old reader takes for overlap.
+fn check_flags(flags: Flags) -> Fit
+    ensures { λ r. ⌜ r ≡ flagsFitOf flags ⌝ }
+{
+    let return_number = flags.return_number();
+    let number_of_returns = flags.number_of_returns();
+    let class = flags.class();
+    let scanner_channel = flags.scanner_channel();
+    let overlap = flags.is_overlap();
+    check_readings(
+        return_number,
+        number_of_returns,
+        class,
+        scanner_channel,
+        overlap,
+    )
+}
+
+// The first reading that two bytes have no room for, and then an overlap flag that they would not read back.
+fn check_readings(
+    return_number: u8,
+    number_of_returns: u8,
+    class: u8,
+    scanner_channel: u8,
+    overlap: bool,
+) -> Fit
+    ensures { λ r. ⌜ r ≡ readingsFit «return_number» «number_of_returns» class «scanner_channel» overlap ⌝ }
+{
+    if return_number > 7 {
+        return Fit::Refused(Refusal::ReturnNumber(return_number));
+    }
+    if number_of_returns > 7 {
+        return Fit::Refused(Refusal::NumberOfReturns(number_of_returns));
+    }
+    if class > 31 {
+        return Fit::Refused(Refusal::Class(class));
+    }
+    if scanner_channel > 0 {
+        return Fit::Refused(Refusal::Channel(scanner_channel));
+    }
+    if overlap_goes(overlap, class) {
+        return Fit::Fits;
+    }
+    Fit::Refused(Refusal::Overlap(class))
+}
+
+// Whether an overlap flag is what both old readers take from the class.
+fn overlap_goes(overlap: bool, class: u8) -> bool
+    ensures { λ r. ⌜ r ≡ overlapGoes overlap class ⌝ }
+{
+    if overlap {
+        return class == OVERLAP_CLASSIFICATION_CODE;
+    }
+    if class == OVERLAP_CLASSIFICATION_CODE {
+        return false;
+    }
+    class != READ_AS_OVERLAP_TOO
+}
+
+// The near infrared fits where it is missing or 0: the old formats have none.
+fn check_nir(nir: MaybeNir) -> Fit
+    ensures { λ r. ⌜ r ≡ nirFitOf nir ⌝ }
+{
+    match nir {
+        MaybeNir::Some(n) => {
+            if n == 0 {
+                Fit::Fits
+            } else {
+                Fit::Refused(Refusal::Nir(n))
+            }
+        }
+        MaybeNir::None => Fit::Fits,
+    }
+}
+
+// A rank fits as it is, a scaled angle where its nearest rank need not be held.
+fn check_angle(scan_angle: ScanAngle) -> Fit
+    ensures { λ r. ⌜ r ≡ angleFitOf «scan_angle» ⌝ }
+{
+    match scan_angle {
+        ScanAngle::Rank(_) => Fit::Fits,
+        ScanAngle::Scaled(n) => check_scaled(n),
+    }
+}
+
+fn check_scaled(n: i16) -> Fit
+    ensures { λ r. ⌜ r ≡ scaledFitOf n ⌝ }
+{
+    if rank_fits(angle::nearest_rank(n)) {
+        return Fit::Fits;
+    }
+    Fit::Refused(Refusal::Angle(signed::bits16(n)))
+}
+
+fn rank_fits(rank: i16) -> bool
+    ensures { λ r. ⌜ r ≡ rankFits rank ⌝ }
+{
+    if rank < LOWEST_RANK {
+        return false;
+    }
+    if rank > HIGHEST_RANK {
+        return false;
+    }
+    true
+}
+
+// A point with these two bytes of flags made new.
+fn upgraded_old(point: Point, a: u8, b: u8) -> Point
+    ensures { λ r. ⌜ r ≡ upgradedOld point a b ⌝ }
+{
+    let flags = upgraded_flags(a, b);
+    let scan_angle = point.scan_angle;
+    let gps_time = point.gps_time;
+    let color = point.color;
+    let waveform = point.waveform;
+    Point {
+        x: point.x,
+        y: point.y,
+        z: point.z,
+        intensity: point.intensity,
+        flags,
+        scan_angle: ScanAngle::Scaled(scan_angle.to_scaled()),
+        user_data: point.user_data,
+        point_source_id: point.point_source_id,
+        gps_time,
+        color,
+        waveform,
+        nir: MaybeNir::None,
+    }
+}
+
+// Direction and edge keep their places, bits 6 and 7; synthetic, key point and withheld move from bits 5 to 7 down to bits 0
+// to 2; the overlap flag, bit 3, is set exactly for class 12.
+fn upgraded_flags(a: u8, b: u8) -> Flags
+    ensures { λ r. ⌜ r ≡ upgradedFlags (Flags.TwoByte a b) ⌝ }
+{
+    let first = a / 8 % 8 * 16 + a % 8;
+    let moved = a / 64 * 64 + b / 32;
+    let class = b % 32;
+    if class == OVERLAP_CLASSIFICATION_CODE {
+        return Flags::ThreeByte(first, moved + 8, class);
+    }
+    Flags::ThreeByte(first, moved, class)
+}
