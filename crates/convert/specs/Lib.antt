@@ -1,0 +1,5 @@
+pub mod Pairs
+pub mod Run
+pub mod Asked
+pub mod Fits
+pub mod Laws
