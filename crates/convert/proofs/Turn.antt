@@ -41,6 +41,13 @@ record-length m s at left more ends =
     let e : at + m - at ≡ m = omega arith in
     rw e (length-take-le m (drop at s) (simp length-drop (omega (arith, less-one left m more))))
 
+-- a piece of n bytes laid at `to`: the whole keeps its length, and what is still to come makes the same of it
+laid-turn : (d bs rest ys : List ℕ) (to n : ℕ) {w : List ℕ} → length bs ≡ n → to + n ≤ length d → ys ≡ bs ++ drop n (take (length d - to) (drop to d)) → sets d to (bs ++ rest) ≡ w → (length (take to d ++ (ys ++ drop (length d - to) (drop to d))) ≡ length d) × (sets (take to d ++ (ys ++ drop (length d - to) (drop to d))) (to + n) rest ≡ w)
+laid-turn d bs rest ys to n size room laid all =
+    let fits : length bs ≤ length (take (length d - to) (drop to d)) = simp (length-take, length-drop) (omega arith) in
+    let put : (wrote.Bytes (length bs), ys) ≡ frontOf bs (take (length d - to) (drop to d)) = rw (laid, ← size) (sym (front bs _ fits)) in
+    rw (← size) (turn d bs rest ys to (wrote.Bytes (length bs)) (omega arith) put all)
+
 module _ (f : Format) (m : ℕ) (s : List ℕ) where
   judge-step : (number at left : ℕ) → 0 < left → judgeRun f m number left (drop at s) ≡ judgedBy (fitOf (pointOf f (take (at + m - at) (drop at s)))) number (judgeRun f m (number + 1) (left - 1) (drop (at + m) s))
   unfolding judgeRun
@@ -88,11 +95,9 @@ module _ (up : Bool) (p : Plan) (s : List ℕ) (at left : ℕ) (more : 0 < left)
           let cut : at + m - at ≡ m = omega arith in
           rw (one, cut, ← (drop-drop m at s)) t
 
-  -- the record's image laid at `to`: the whole keeps its length, and what is still to come makes the same of it
+  -- the record's image is such a piece
   pub write-turn : (d ys : List ℕ) (to : ℕ) {w : List ℕ} → Sound up p → at + left * m ≤ length s → to + p .«target_length» ≤ length d → TakesRun up p left (drop at s) → ys ≡ imageOf up p record-at ++ drop (p .«target_length») (take (length d - to) (drop to d)) → sets d to (imagesOf up p left (drop at s)) ≡ w → (length (take to d ++ (ys ++ drop (length d - to) (drop to d))) ≡ length d) × (sets (take to d ++ (ys ++ drop (length d - to) (drop to d))) (to + p .«target_length») (imagesOf up p (left - 1) (drop (at + m) s)) ≡ w)
   write-turn d ys to sound ends room takes laid all =
-      let bs = imageOf up p record-at in
       let size : length (imageOf up p record-at) ≡ p .«target_length» = image-length up p sound record-at (record-length m s at left more ends) (takes-step takes .0) in
-      let fits : length (imageOf up p record-at) ≤ length (take (length d - to) (drop to d)) = simp (length-take, length-drop) (omega arith) in
-      let put : (wrote.Bytes (length (imageOf up p record-at)), ys) ≡ frontOf (imageOf up p record-at) (take (length d - to) (drop to d)) = rw (laid, ← size) (sym (front (imageOf up p record-at) _ fits)) in
-      rw (← size) (turn d (imageOf up p record-at) (imagesOf up p (left - 1) (drop (at + m) s)) ys to (wrote.Bytes (length (imageOf up p record-at))) (omega arith) put (sym (ap (sets d to) (images-step (left - 1) (omega arith))) ∙ all))
+      laid-turn d (imageOf up p record-at) (imagesOf up p (left - 1) (drop (at + m) s)) ys to (p .«target_length») size room laid
+      (sym (ap (sets d to) (images-step (left - 1) (omega arith))) ∙ all)

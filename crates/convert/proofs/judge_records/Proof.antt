@@ -1,97 +1,61 @@
+-- The invariant is over what is left: what is said of the records from here on is what is to be said of the run.
+use Prim.Native.Nat.{_+_, _-_, _*_, _≤_}
+use mathlib.Core.Path.{_≡_}
+use native.Mathlib.Omega.{arith}
+use borrow.Author.Needs.{needs}
+use lib.ListN.{length, drop}
+use Rattle.convert.specs.Run.{judgeRun}
+use Rattle.convert.proofs.Turn.{less-one, record-length, judge-turn, none-left, first-number}
 use Rattle.convert.proofs.judge_records.Statement.{statement}
 use Rattle.convert.proofs.judge_records.Tie as tie
-use Rattle.convert.proofs.judge_records.Reads as reads
-use Rattle.convert.proofs.judge_records.Lts as lts
-use Rattle.convert.proofs.judge_record.Reads as judge-record-reads
 
 abbrev Inv-loop : tie.InvT-loop
-Inv-loop src format m count at₀ left₀ at left = ?
+Inv-loop src format m count at₀ left₀ at left =
+    (left ≤ count) × (at + left * m ≤ length src) × (judgeRun format m (count - left + 1) left (drop at src) ≡ judgeRun format m 1 count src)
 
 abbrev μ-loop : tie.MeasureT-loop
-μ-loop src format m count at₀ left₀ at left = ?
+μ-loop src format m count at₀ left₀ at left = left
 
--- src/lib.rt:221:5
+-- in a turn there is one record, and the rest
+more : (c : tie.In-loop Inv-loop μ-loop) → c .before .loop .left * c .before .before .before .args .m ≡ c .before .before .before .args .m + (c .before .loop .left - 1) * c .before .before .before .args .m
+more c = less-one (c .before .loop .left) (c .before .before .before .args .m) (omega arith)
+
 loop-holds : tie.Need-loop-holds Inv-loop μ-loop
-loop-holds c = ?
+loop-holds c = (omega arith, omega (arith, c .before .pre .1), first-number _ _ _ _)
 
--- src/lib.rt:222:62
-add-judge-record : tie.Need-add-judge-record Inv-loop μ-loop
-add-judge-record c = ?
-
--- src/lib.rt:222:53
-sub-judge-record : tie.Need-sub-judge-record Inv-loop μ-loop
-sub-judge-record c = ?
-
--- src/lib.rt:222:53
-part-judge-record-start : tie.Need-part-judge-record-start Inv-loop μ-loop
-part-judge-record-start c = ?
-
--- src/lib.rt:222:53
-part-judge-record-end : tie.Need-part-judge-record-end Inv-loop μ-loop
-part-judge-record-end c = ?
-
--- src/lib.rt:222:40
 judge-record-requires : tie.Need-judge-record-requires Inv-loop μ-loop
-judge-record-requires c κs = ?
+judge-record-requires c κs =
+    let l = c .before .before in
+    let s = l .before .before in
+    rw (record-length (s .args .m) (s .args .src .now) (l .loop .at) (l .loop .left) (omega arith) (l .loop .inv .1)) (s .pre .0)
 
--- src/lib.rt:222:29
-enum-known-refusal : tie.Need-enum-known-refusal Inv-loop μ-loop
-enum-known-refusal c = ?
-
--- src/lib.rt:225:26
-sub-t15 : tie.Need-sub-t15 Inv-loop μ-loop
-sub-t15 c = ?
-
--- src/lib.rt:225:26
-add-t16 : tie.Need-add-t16 Inv-loop μ-loop
-add-t16 c = ?
-
--- src/lib.rt:223:13
 returns : tie.Need-returns Inv-loop μ-loop
-returns c = ?
+returns c =
+    let l = c .before .before .before .before .before .before in
+    let a = l .before .before .args in
+    rw (c .before .refusal .given .1) at
+    (judge-turn (a .format) (a .m) (a .src .now) _ (l .loop .at) (l .loop .left) (omega arith) (c .before .before .before .judge-record .ensures) (l .loop .inv .2))
 
-enum-told : tie.Need-enum-told Inv-loop μ-loop
-enum-told c = ?
-
--- src/lib.rt:228:9
-add-at : tie.Need-add-at Inv-loop μ-loop
-add-at c = ?
-
--- src/lib.rt:229:9
-sub-left : tie.Need-sub-left Inv-loop μ-loop
-sub-left c = ?
-
--- src/lib.rt:221:5
-loop-less : tie.Need-loop-less Inv-loop μ-loop
-loop-less c = ?
-
--- src/lib.rt:221:5
 loop-again : tie.Need-loop-again Inv-loop μ-loop
-loop-again c = ?
+loop-again c =
+    let l = c .before .before .before .before .before in
+    let a = l .before .before .args in
+    let e : a .count - (l .loop .left - 1) + 1 ≡ a .count - l .loop .left + 1 + 1 = omega arith in
+    (omega arith, omega (arith, more (c .before .before .before .before)),
+    rw e
+    (rw (c .enum-told .given .1) at
+    (judge-turn (a .format) (a .m) (a .src .now) _ (l .loop .at) (l .loop .left) (omega arith) (c .before .before .judge-record .ensures) (l .loop .inv .2))))
 
--- src/lib.rt:215:1
 returns-2 : tie.Need-returns-2 Inv-loop μ-loop
-returns-2 c = ?
+returns-2 c =
+    let e : c .before .loop .left ≡ 0 = omega arith in
+    none-left _ _ (c .before .before .before .args .src .now) _ _ (rw e at (c .before .loop .inv .2))
 
 pub judge-records-spec : {M : Type 1} → statement M
 judge-records-spec =
     tie.close
     (tie.spec
-    Inv-loop
-    μ-loop
-    loop-holds
-    add-judge-record
-    sub-judge-record
-    part-judge-record-start
-    part-judge-record-end
-    judge-record-requires
-    enum-known-refusal
-    sub-t15
-    add-t16
-    returns
-    enum-told
-    add-at
-    sub-left
-    loop-less
-    loop-again
-    returns-2)
+    Inv-loop μ-loop loop-holds
+    (λ c. omega (arith, more c)) (λ c. search needs) (λ c. search needs) (λ c. omega (arith, more c))
+    judge-record-requires (λ c. search needs) (λ c. search needs) (λ c. omega arith) returns (λ c. search needs)
+    (λ c. omega (arith, more (c .before .before .before .before))) (λ c. search needs) (λ c. search needs) loop-again returns-2)

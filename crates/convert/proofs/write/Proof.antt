@@ -1,98 +1,31 @@
+-- The invariant is over what is left: laid from here on, it makes of the destination what is promised.
+use Prim.Native.Nat.{_+_, _-_, _*_, _≤_}
+use mathlib.Core.Path.{_≡_, refl, _∙_}
+use native.Mathlib.Omega.{arith}
+use borrow.Author.Needs.{needs}
+use lib.ListN.{length, drop, length-take, length-drop}
+use lib.Seq.{sets}
+use Rattle.lent.specs.Laws.{whole}
+use Rattle.convert.specs.Run.{imagesOf}
+use Rattle.convert.specs.Asked.{TakesRun}
+use Rattle.convert.specs.Laws.{images-length}
+use Rattle.convert.proofs.Turn.{less-one, record-length, takes-step, write-turn}
 use Rattle.convert.proofs.write.Statement.{statement}
 use Rattle.convert.proofs.write.Tie as tie
-use Rattle.convert.proofs.write.Reads as reads
-use Rattle.convert.proofs.write.Lts as lts
-use Rattle.convert.proofs.write_record.Reads as write-record-reads
 
 abbrev Inv-loop : tie.InvT-loop
-Inv-loop src plan count up dst₀ m n at₀ to₀ left₀ dst at to left = ?
+Inv-loop src plan count up dst₀ m n at₀ to₀ left₀ dst at to left =
+    (at + left * plan .«source_length» ≤ length src) × (to + left * plan .«target_length» ≤ length dst) × (length dst ≡ length dst₀) × TakesRun up plan left (drop at src) × (sets dst to (imagesOf up plan left (drop at src)) ≡ sets dst₀ 0 (imagesOf up plan count src))
 
 abbrev μ-loop : tie.MeasureT-loop
-μ-loop src plan count up dst₀ m n at₀ to₀ left₀ dst at to left = ?
+μ-loop src plan count up dst₀ m n at₀ to₀ left₀ dst at to left = left
 
--- src/lib.rt:255:5
 loop-holds : tie.Need-loop-holds Inv-loop μ-loop
 loop-holds c = ?
-
--- src/lib.rt:256:31
-add-write-record : tie.Need-add-write-record Inv-loop μ-loop
-add-write-record c = ?
-
--- src/lib.rt:256:22
-sub-write-record : tie.Need-sub-write-record Inv-loop μ-loop
-sub-write-record c = ?
-
--- src/lib.rt:256:22
-part-write-record-start : tie.Need-part-write-record-start Inv-loop μ-loop
-part-write-record-start c = ?
-
--- src/lib.rt:256:22
-part-write-record-end : tie.Need-part-write-record-end Inv-loop μ-loop
-part-write-record-end c = ?
-
--- src/lib.rt:256:50
-sub-write-record-2 : tie.Need-sub-write-record-2 Inv-loop μ-loop
-sub-write-record-2 c = ?
-
--- src/lib.rt:256:50
-part-write-record-start-2 : tie.Need-part-write-record-start-2 Inv-loop μ-loop
-part-write-record-start-2 c = ?
-
--- src/lib.rt:256:50
-part-write-record-end-2 : tie.Need-part-write-record-end-2 Inv-loop μ-loop
-part-write-record-end-2 c = ?
-
--- src/lib.rt:256:9
-write-record-requires : tie.Need-write-record-requires Inv-loop μ-loop
-write-record-requires c κs = ?
-
--- src/lib.rt:257:9
-add-at : tie.Need-add-at Inv-loop μ-loop
-add-at c = ?
-
--- src/lib.rt:258:9
-add-to : tie.Need-add-to Inv-loop μ-loop
-add-to c = ?
-
--- src/lib.rt:259:9
-sub-left : tie.Need-sub-left Inv-loop μ-loop
-sub-left c = ?
-
--- src/lib.rt:255:5
-loop-less : tie.Need-loop-less Inv-loop μ-loop
-loop-less c = ?
-
--- src/lib.rt:255:5
-loop-again : tie.Need-loop-again Inv-loop μ-loop
-loop-again c = ?
-
--- src/lib.rt:246:1
-same-length : tie.Need-same-length Inv-loop μ-loop
-same-length c = ?
-
--- src/lib.rt:246:1
-returns : tie.Need-returns Inv-loop μ-loop
-returns c = ?
 
 pub write-spec : {M : Type 1} → statement M
 write-spec =
     tie.close
     (tie.spec
-    Inv-loop
-    μ-loop
-    loop-holds
-    add-write-record
-    sub-write-record
-    part-write-record-start
-    part-write-record-end
-    sub-write-record-2
-    part-write-record-start-2
-    part-write-record-end-2
-    write-record-requires
-    add-at
-    add-to
-    sub-left
-    loop-less
-    loop-again
-    same-length
-    returns)
+    Inv-loop μ-loop loop-holds
+    (λ c. ?) (λ c. ?) (λ c. ?) (λ c. ?) (λ c. ?) (λ c. ?) (λ c. ?) (λ c κs. ?) (λ c. ?) (λ c. ?) (λ c. ?) (λ c. ?) (λ c. ?) (λ c. ?) (λ c. ?))
