@@ -19,7 +19,7 @@ convert-requires : tie.Need-convert-requires
 convert-requires c κs =
     let x = c .before .before in
     let a = x .before .before .before .before .before .before .args in
-    plan-sound true (a .format) _ _ (new-sound (a .format) (a .extra)) (told x)
+    plan-sound true (a .format) (newPair (a .format) (a .extra)) _ (new-sound (a .format) (a .extra)) (told x)
 
 returns : tie.Need-returns
 unfolding toNewOf

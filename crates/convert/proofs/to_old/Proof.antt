@@ -19,7 +19,7 @@ convert-requires : tie.Need-convert-requires
 convert-requires c κs =
     let x = c .before .before in
     let a = x .before .before .before .before .before .before .args in
-    plan-sound false (a .format) _ _ (old-sound (a .format) (a .extra)) (told x)
+    plan-sound false (a .format) (oldPair (a .format) (a .extra)) _ (old-sound (a .format) (a .extra)) (told x)
 
 returns : tie.Need-returns
 unfolding toOldOf
