@@ -30,6 +30,7 @@ use Rattle.point_write.specs.Answered.{answered, extra-length}
 use Rattle.strict.specs.declared.Fit.{Fit}
 use Rattle.strict.specs.declared.Fit.the-variants as fit
 use Rattle.strict.specs.Fit.{fitOf}
+use Rattle.strict.specs.Whole.{fits-two}
 use Rattle.convert.specs.declared.Pair.{Pair}
 use Rattle.convert.specs.declared.Pair.the-variants.{Formats, None}
 use Rattle.convert.specs.declared.Plan.{Plan}
@@ -39,7 +40,6 @@ use Rattle.convert.specs.declared.Judged.the-variants as judged
 use Rattle.convert.specs.Pairs.{withExtra, pairOf, oldPair, newPair, lengthsOf, plannedBy}
 use Rattle.convert.specs.Run.{turnedOf, imageOf, imagesOf, judgedBy, judgeRun, recordsOf, judgedOf}
 use Rattle.convert.specs.Asked.{Sound, Takes, TakesRun}
-use Rattle.convert.specs.Fits.{fits-two}
 
 -- a pair has as many extra bytes on both sides, and what is upgraded becomes extended
 abbrev PairSound : Bool → Pair → Type 0

@@ -30,14 +30,17 @@ unfoldable pub overlapGoes : Bool → ℕ → Bool
 overlapGoes true class = eqb class 12
 overlapGoes false class = not (eqb class 12) && not (eqb class 28)
 
--- "return number above 7; number of returns above 7; class above 31; channel above 0; overlap ..", of flags by their readings
+-- "return number above 7; number of returns above 7; class above 31; channel above 0; overlap .."
+unfoldable pub readingsFit : ℕ → ℕ → ℕ → ℕ → Bool → Fit
+readingsFit returnNumber returns class channel overlap =
+    cond (ltb 7 returnNumber) (Refused (ReturnNumber returnNumber))
+    (cond (ltb 7 returns) (Refused (NumberOfReturns returns))
+    (cond (ltb 31 class) (Refused (Class class))
+    (cond (ltb 0 channel) (Refused (Channel channel)) (cond (overlapGoes overlap class) Fits (Refused (Overlap class))))))
+
+-- of flags of either kind, by what the Rust reads from them
 unfoldable pub flagsFitOf : Flags → Fit
-flagsFitOf f =
-    cond (ltb 7 (returnNumberOf f)) (Refused (ReturnNumber (returnNumberOf f)))
-    (cond (ltb 7 (numberOfReturnsOf f)) (Refused (NumberOfReturns (numberOfReturnsOf f)))
-    (cond (ltb 31 (classOf f)) (Refused (Class (classOf f)))
-    (cond (ltb 0 (channelOf f)) (Refused (Channel (channelOf f)))
-    (cond (overlapGoes (overlapOf f) (classOf f)) Fits (Refused (Overlap (classOf f)))))))
+flagsFitOf f = readingsFit (returnNumberOf f) (numberOfReturnsOf f) (classOf f) (channelOf f) (overlapOf f)
 
 -- "NIR not 0" does not fit; a missing one is 0
 abbrev pub nirFitOf : MaybeNir → Fit

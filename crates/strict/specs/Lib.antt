@@ -1,2 +1,10 @@
 pub mod Fit
 pub mod Upgrade
+pub mod Shown
+pub mod Made
+pub mod Laws
+pub mod Whole
+pub mod Named
+pub mod Back
+pub mod Record
+pub mod Theorems

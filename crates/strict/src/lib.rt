@@ -1,7 +1,7 @@
 // One record of the strict conversion and of the upgrade, added by document 01: whether a point can be made old with every
 // field the same, and an old point made new. The bytes are the point writer's.
 ghost use mathlib.Core.Path.{_≡_};
-ghost use Rattle.strict.specs.Fit.{firstOf, overlapGoes, flagsFitOf, nirFitOf, rankFits, scaledFitOf, angleFitOf, fitOf};
+ghost use Rattle.strict.specs.Fit.{firstOf, overlapGoes, readingsFit, flagsFitOf, nirFitOf, rankFits, scaledFitOf, angleFitOf, fitOf};
 ghost use Rattle.strict.specs.Upgrade.{upgradedFlags, upgradedOld, upgradedOf};
 use angle::ScanAngle;
 use flags::Flags;
@@ -66,22 +66,42 @@ fn check_flags(flags: Flags) -> Fit
     ensures { λ r. ⌜ r ≡ flagsFitOf flags ⌝ }
 {
     let return_number = flags.return_number();
+    let number_of_returns = flags.number_of_returns();
+    let class = flags.class();
+    let scanner_channel = flags.scanner_channel();
+    let overlap = flags.is_overlap();
+    check_readings(
+        return_number,
+        number_of_returns,
+        class,
+        scanner_channel,
+        overlap,
+    )
+}
+
+// The first reading that two bytes have no room for, and then an overlap flag that they would not read back.
+fn check_readings(
+    return_number: u8,
+    number_of_returns: u8,
+    class: u8,
+    scanner_channel: u8,
+    overlap: bool,
+) -> Fit
+    ensures { λ r. ⌜ r ≡ readingsFit «return_number» «number_of_returns» class «scanner_channel» overlap ⌝ }
+{
     if return_number > 7 {
         return Fit::Refused(Refusal::ReturnNumber(return_number));
     }
-    let number_of_returns = flags.number_of_returns();
     if number_of_returns > 7 {
         return Fit::Refused(Refusal::NumberOfReturns(number_of_returns));
     }
-    let class = flags.class();
     if class > 31 {
         return Fit::Refused(Refusal::Class(class));
     }
-    let scanner_channel = flags.scanner_channel();
     if scanner_channel > 0 {
         return Fit::Refused(Refusal::Channel(scanner_channel));
     }
-    if overlap_goes(flags.is_overlap(), class) {
+    if overlap_goes(overlap, class) {
         return Fit::Fits;
     }
     Fit::Refused(Refusal::Overlap(class))
@@ -141,7 +161,10 @@ fn rank_fits(rank: i16) -> bool
     if rank < LOWEST_RANK {
         return false;
     }
-    rank <= HIGHEST_RANK
+    if rank > HIGHEST_RANK {
+        return false;
+    }
+    true
 }
 
 // A point with these two bytes of flags made new.
@@ -174,15 +197,11 @@ fn upgraded_old(point: Point, a: u8, b: u8) -> Point
 fn upgraded_flags(a: u8, b: u8) -> Flags
     ensures { λ r. ⌜ r ≡ upgradedFlags (Flags.TwoByte a b) ⌝ }
 {
+    let first = a / 8 % 8 * 16 + a % 8;
+    let moved = a / 64 * 64 + b / 32;
     let class = b % 32;
-    let overlap = if class == OVERLAP_CLASSIFICATION_CODE {
-        8
-    } else {
-        0
-    };
-    Flags::ThreeByte(
-        a / 8 % 8 * 16 + a % 8,
-        a / 64 * 64 + overlap + b / 32,
-        class,
-    )
+    if class == OVERLAP_CLASSIFICATION_CODE {
+        return Flags::ThreeByte(first, moved + 8, class);
+    }
+    Flags::ThreeByte(first, moved, class)
 }

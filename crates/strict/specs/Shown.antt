@@ -1,0 +1,101 @@
+-- What an old reader is shown of a point. Document 01, "Strict conversion": "the old reader of demand 3 is the Rust's and the
+-- standard's both".
+use Prim.Native.Nat.{ℕ}
+use mathlib.Core.Path.{_≡_}
+use mathlib.Core.Bool.{true, false}
+use mathlib.Core.List.{List}
+use lib.IntN.{ℤ}
+use mir.Syntax.{w8, w16}
+use mir.Val.{SFits, ofZ}
+use Rattle.format.specs.declared.Format.{Format}
+use Rattle.format.specs.declared.Field.the-variants.{ExtraBytes}
+use Rattle.refusal.specs.declared.Refusal.{Refusal}
+use Rattle.refusal.specs.declared.Refusal.the-variants.{ReturnNumber, NumberOfReturns, Class, Channel, Overlap, Nir, Angle}
+use Rattle.flags.specs.declared.Flags.{Flags}
+use Rattle.flags.specs.declared.Flags.the-variants.{TwoByte}
+use Rattle.flags.specs.declared.TwoBytes.the-variants.{Bytes}
+use Rattle.flags.specs.Readings.{returnNumberOf, numberOfReturnsOf, directionOf, edgeOf, classOf, syntheticOf, keyPointOf, withheldOf, overlapOf, standardOverlapOf, channelOf}
+use Rattle.flags.specs.Bytes.{twoBytesOf}
+use Rattle.angle.specs.declared.ScanAngle.{ScanAngle}
+use Rattle.angle.specs.declared.ScanAngle.the-variants.{Rank, Scaled}
+use Rattle.angle.specs.Angle.{nearestRank, toScaled}
+use Rattle.point.specs.declared.MaybeNir.{MaybeNir}
+use Rattle.point.specs.declared.MaybeNir.the-variants.{Some, None}
+use Rattle.point.specs.declared.Point.{Point}
+use Rattle.point.specs.Read.{fieldOf, pointOf}
+use Rattle.point_write.specs.Write.{recordOf}
+use Rattle.strict.specs.Upgrade.{upgradedOf}
+
+-- g says in every reading what f says; overlap by the Rust's reading of g and by the standard's
+pub record Shown (f g : Flags) : Type 0 where
+  pub return-number : returnNumberOf g ≡ returnNumberOf f
+  pub number-of-returns : numberOfReturnsOf g ≡ numberOfReturnsOf f
+  pub direction : directionOf g ≡ directionOf f
+  pub edge : edgeOf g ≡ edgeOf f
+  pub class : classOf g ≡ classOf f
+  pub synthetic : syntheticOf g ≡ syntheticOf f
+  pub key-point : keyPointOf g ≡ keyPointOf f
+  pub withheld : withheldOf g ≡ withheldOf f
+  pub channel : channelOf g ≡ channelOf f
+  pub overlap : overlapOf g ≡ overlapOf f
+  pub overlap-standard : standardOverlapOf g ≡ overlapOf f
+
+-- the plain conversion gives two bytes that show the same
+pub record Down (f : Flags) : Type 0 where
+  pub first : ℕ
+  pub second : ℕ
+  pub bytes : twoBytesOf f ≡ Bytes first second
+  pub shown : Shown f (TwoByte first second)
+
+-- "scan angle to the nearest whole degree with halves away from zero", in ℤ
+abbrev pub exactRank : ScanAngle → ℤ
+exactRank (Rank r) = r
+exactRank (Scaled n) = nearestRank n
+
+-- a missing near infrared is zero
+abbrev pub nirNumber : MaybeNir → ℕ
+nirNumber (Some n) = n
+nirNumber None = 0
+
+-- "the same value in every field": q is what an old reader finds of p
+pub record Same (p q : Point) : Type 0 where
+  pub x : q .x ≡ p .x
+  pub y : q .y ≡ p .y
+  pub z : q .z ≡ p .z
+  pub intensity : q .intensity ≡ p .intensity
+  pub flags : Shown (p .flags) (q .flags)
+  pub «scan_angle» : q .«scan_angle» ≡ Rank (exactRank (p .«scan_angle»))
+  pub «user_data» : q .«user_data» ≡ p .«user_data»
+  pub «point_source_id» : q .«point_source_id» ≡ p .«point_source_id»
+  pub «gps_time» : q .«gps_time» ≡ p .«gps_time»
+  pub color : q .color ≡ p .color
+  pub waveform : q .waveform ≡ p .waveform
+  pub nir : nirNumber (q .nir) ≡ nirNumber (p .nir)
+
+-- What a refusal names, with its value: a reading that no two bytes have; the class, where no two bytes have it with the overlap
+-- that is said, as both old readers take it; near infrared; an angle whose nearest whole degree is no rank.
+pub data Unshown (p : Point) : Refusal → Type 0 where
+  return-number : ((x y : ℕ) → returnNumberOf (TwoByte x y) ≡ returnNumberOf (p .flags) → ⊥) → Unshown p (ReturnNumber (returnNumberOf (p .flags)))
+  number-of-returns : ((x y : ℕ) → numberOfReturnsOf (TwoByte x y) ≡ numberOfReturnsOf (p .flags) → ⊥) → Unshown p (NumberOfReturns (numberOfReturnsOf (p .flags)))
+  class : ((x y : ℕ) → classOf (TwoByte x y) ≡ classOf (p .flags) → ⊥) → Unshown p (Class (classOf (p .flags)))
+  channel : ((x y : ℕ) → channelOf (TwoByte x y) ≡ channelOf (p .flags) → ⊥) → Unshown p (Channel (channelOf (p .flags)))
+  overlap : ((x y : ℕ) → classOf (TwoByte x y) ≡ classOf (p .flags) → overlapOf (TwoByte x y) ≡ overlapOf (p .flags) → standardOverlapOf (TwoByte x y) ≡ overlapOf (p .flags) → ⊥) → Unshown p (Overlap (classOf (p .flags)))
+  nir : (nirNumber (p .nir) ≡ 0 → ⊥) → Unshown p (Nir (nirNumber (p .nir)))
+  angle : ((r : ℤ) → SFits w8 r → r ≡ exactRank (p .«scan_angle») → ⊥) → Unshown p (Angle (ofZ w16 (toScaled (p .«scan_angle»))))
+
+-- a new format and the old one of its pair: the same but for their kind, the near infrared and nothing else
+pub record Paired (new old : Format) : Type 0 where
+  pub is-new : new .«is_extended» ≡ true
+  pub is-old : old .«is_extended» ≡ false
+  pub time : new .«has_gps_time» ≡ old .«has_gps_time»
+  pub color : new .«has_color» ≡ old .«has_color»
+  pub waveform : new .«has_waveform» ≡ old .«has_waveform»
+  pub no-nir : old .«has_nir» ≡ false
+  pub extra : new .«extra_bytes» ≡ old .«extra_bytes»
+
+-- the bytes that stand for the record s in the other format of a pair: its point's, and its extra bytes
+abbrev pub downImage : Format → Format → List ℕ → List ℕ
+downImage new old s = recordOf old (pointOf new s) (fieldOf new ExtraBytes s)
+
+abbrev pub upImage : Format → Format → List ℕ → List ℕ
+upImage old new s = recordOf new (upgradedOf (pointOf old s)) (fieldOf old ExtraBytes s)
