@@ -270,7 +270,12 @@ fn write_record(src: &[u8], plan: Plan, up: bool, dst: &mut [u8])
     let PointRead::Is(point) = Point::read_from(src, source) else {
         return;
     };
-    point_write::write_to(turned(point, up), point::extra_bytes(src, source), dst, target);
+    point_write::write_to(
+        turned(point, up),
+        point::extra_bytes(src, source),
+        dst,
+        target,
+    );
 }
 
 // The point as it is, or upgraded.

@@ -40,11 +40,13 @@ loop-again : tie.Need-loop-again Inv-loop μ-loop
 loop-again c =
     let l = c .before .before .before .before .before in
     let a = l .before .before .args in
-    let e : a .count - (l .loop .left - 1) + 1 ≡ a .count - l .loop .left + 1 + 1 = omega arith in
-    (omega arith, omega (arith, more (c .before .before .before .before)),
-    rw e
-    (rw (c .enum-told .given .1) at
-    (judge-turn (a .format) (a .m) (a .src .now) _ (l .loop .at) (l .loop .left) (omega arith) (c .before .before .judge-record .ensures) (l .loop .inv .2))))
+    let e : a .count - (l .loop .left - 1) + 1 ≡ a .count - l .loop .left + 1 + 1 = omega arith in (
+      omega arith,
+      omega (arith, more (c .before .before .before .before)),
+      rw e
+          (rw (c .enum-told .given .1) at
+          (judge-turn (a .format) (a .m) (a .src .now) _ (l .loop .at) (l .loop .left) (omega arith) (c .before .before .judge-record .ensures) (l .loop .inv .2))),
+    )
 
 returns-2 : tie.Need-returns-2 Inv-loop μ-loop
 returns-2 c =
