@@ -1,0 +1,103 @@
+-- One record of a run, and the rest of it: a turn of the judge, and a turn of the writer.
+use Prim.Native.Nat.{ℕ, zero, suc, _+_, _-_, _*_, _/_, _≤_, _<_}
+use mathlib.Core.Path.{_≡_, refl, ap, sym, _∙_}
+use mathlib.Core.Bool.{Bool}
+use mathlib.Core.List.{List, _++_}
+use native.Mathlib.Nat.{suc-mul, div-lt-iff-lt-mul, le-div-iff-mul-le}
+use native.Mathlib.Omega.{arith}
+use lib.ListN.{length, take, drop, length-take, length-drop}
+use lib.Seq.{sets, drop-drop, length-take-le}
+use Rattle.lent.specs.declared.Wrote.the-variants as wrote
+use Rattle.lent.specs.Front.{frontOf}
+use Rattle.lent.specs.Laws.{front, turn}
+use Rattle.format.specs.declared.Format.{Format}
+use Rattle.point.specs.Read.{pointOf}
+use Rattle.strict.specs.declared.Fit.{Fit}
+use Rattle.strict.specs.Fit.{fitOf}
+use Rattle.convert.specs.declared.Judged.{Judged}
+use Rattle.convert.specs.declared.Judged.the-variants.{Fits}
+use Rattle.convert.specs.declared.Plan.{Plan}
+use Rattle.convert.specs.Run.{turnedOf, imageOf, imagesOf, judgedBy, judgeRun}
+use Rattle.convert.specs.Asked.{Sound, Takes, TakesRun}
+use Rattle.convert.specs.Laws.{image-length}
+
+-- a test by division, which cannot wrap, says what the product would
+pub div-le : (m n size : ℕ) → 0 < m → n ≤ size / m → n * m ≤ size
+div-le m n size h g = le-div-iff-mul-le h .0 g
+
+pub div-lt : (m n size : ℕ) → 0 < m → size / m < n → size < n * m
+div-lt m n size h g = div-lt-iff-lt-mul h .0 g
+
+-- the last record but `left - 1`
+pub less-one : (left m : ℕ) → 0 < left → left * m ≡ m + (left - 1) * m
+less-one zero m h = absurd (omega arith)
+less-one (suc k) m h =
+    let e : suc k - 1 ≡ k = omega arith in
+    rw (e, suc-mul) (omega arith)
+
+-- the record at a place has m bytes
+pub record-length : (m : ℕ) (s : List ℕ) (at left : ℕ) → 0 < left → at + left * m ≤ length s → length (take (at + m - at) (drop at s)) ≡ m
+record-length m s at left more ends =
+    let e : at + m - at ≡ m = omega arith in
+    rw e (length-take-le m (drop at s) (simp length-drop (omega (arith, less-one left m more))))
+
+-- a piece of n bytes laid at `to`: the whole keeps its length, and what is still to come makes the same of it
+laid-turn : (d bs rest ys : List ℕ) (to n : ℕ) {w : List ℕ} → length bs ≡ n → to + n ≤ length d → ys ≡ bs ++ drop n (take (length d - to) (drop to d)) → sets d to (bs ++ rest) ≡ w → (length (take to d ++ (ys ++ drop (length d - to) (drop to d))) ≡ length d) × (sets (take to d ++ (ys ++ drop (length d - to) (drop to d))) (to + n) rest ≡ w)
+laid-turn d bs rest ys to n size room laid all =
+    let fits : length bs ≤ length (take (length d - to) (drop to d)) = simp (length-take, length-drop) (omega arith) in
+    let put : (wrote.Bytes (length bs), ys) ≡ frontOf bs (take (length d - to) (drop to d)) = rw (laid, ← size) (sym (front bs _ fits)) in
+    rw (← size) (turn d bs rest ys to (wrote.Bytes (length bs)) (omega arith) put all)
+
+module _ (f : Format) (m : ℕ) (s : List ℕ) where
+  judge-step : (number at left : ℕ) → 0 < left → judgeRun f m number left (drop at s) ≡ judgedBy (fitOf (pointOf f (take (at + m - at) (drop at s)))) number (judgeRun f m (number + 1) (left - 1) (drop (at + m) s))
+  unfolding judgeRun
+  judge-step number at zero h = absurd (omega arith)
+  judge-step number at (suc k) h =
+      let e : suc k - 1 ≡ k = omega arith in
+      let cut : at + m - at ≡ m = omega arith in
+      rw (e, cut, drop-drop m at s)
+
+  -- `x` is what is said of the record, `w` what is to be said of the run
+  pub judge-turn : (number at left : ℕ) {x : Fit} {w : Judged} → 0 < left → x ≡ fitOf (pointOf f (take (at + m - at) (drop at s))) → judgeRun f m number left (drop at s) ≡ w → judgedBy x number (judgeRun f m (number + 1) (left - 1) (drop (at + m) s)) ≡ w
+  judge-turn number at left h e w = rw e (sym (judge-step number at left h) ∙ w)
+
+  -- no record is left
+  pub none-left : (number : ℕ) (t : List ℕ) {w : Judged} → judgeRun f m number 0 t ≡ w → Fits ≡ w
+  unfolding judgeRun
+  none-left number t e = e
+
+pub first-number : (f : Format) (m count : ℕ) (s : List ℕ) → judgeRun f m (count - count + 1) count s ≡ judgeRun f m 1 count s
+first-number f m count s = let e : count - count + 1 ≡ 1 = omega arith in rw e
+
+module _ (up : Bool) (p : Plan) (s : List ℕ) (at left : ℕ) (more : 0 < left) where
+  abbrev m : ℕ
+  m = p .«source_length»
+
+  abbrev record-at : List ℕ
+  record-at = take (at + m - at) (drop at s)
+
+  images-step : (k : ℕ) → left ≡ suc k → imagesOf up p left (drop at s) ≡ imageOf up p record-at ++ imagesOf up p (left - 1) (drop (at + m) s)
+  unfolding imagesOf
+  images-step k e =
+      let one : suc k - 1 ≡ k = omega arith in
+      let cut : at + m - at ≡ m = omega arith in
+      rw (e, one, cut, drop-drop m at s)
+
+  -- the writer takes this record, and those after it
+  pub takes-step : TakesRun up p left (drop at s) → Takes (p .target) (turnedOf up (pointOf (p .source) record-at)) × TakesRun up p (left - 1) (drop (at + m) s)
+  unfolding TakesRun
+  takes-step t = go left refl t
+    where
+      go : (l : ℕ) → left ≡ l → TakesRun up p l (drop at s) → Takes (p .target) (turnedOf up (pointOf (p .source) record-at)) × TakesRun up p (left - 1) (drop (at + m) s)
+      go zero e t = absurd (omega arith)
+      go (suc k) e t =
+          let one : left - 1 ≡ k = omega arith in
+          let cut : at + m - at ≡ m = omega arith in
+          rw (one, cut, ← (drop-drop m at s)) t
+
+  -- the record's image is such a piece
+  pub write-turn : (d ys : List ℕ) (to : ℕ) {w : List ℕ} → Sound up p → at + left * m ≤ length s → to + p .«target_length» ≤ length d → TakesRun up p left (drop at s) → ys ≡ imageOf up p record-at ++ drop (p .«target_length») (take (length d - to) (drop to d)) → sets d to (imagesOf up p left (drop at s)) ≡ w → (length (take to d ++ (ys ++ drop (length d - to) (drop to d))) ≡ length d) × (sets (take to d ++ (ys ++ drop (length d - to) (drop to d))) (to + p .«target_length») (imagesOf up p (left - 1) (drop (at + m) s)) ≡ w)
+  write-turn d ys to sound ends room takes laid all =
+      let size : length (imageOf up p record-at) ≡ p .«target_length» = image-length up p sound record-at (record-length m s at left more ends) (takes-step takes .0) in
+      laid-turn d (imageOf up p record-at) (imagesOf up p (left - 1) (drop (at + m) s)) ys to (p .«target_length») size room laid
+      (sym (ap (sets d to) (images-step (left - 1) (omega arith))) ∙ all)

@@ -1,0 +1,42 @@
+use Prim.Native.Nat.{ℕ}
+use mathlib.Core.Path.{_≡_, sym, _∙_}
+use mathlib.Core.Bool.{false}
+use native.Mathlib.Omega.{arith}
+use borrow.Author.Needs.{needs}
+use Rattle.format.specs.Codes.{coded}
+use Rattle.convert.specs.Pairs.{withExtra}
+use Rattle.convert.specs.Laws.{code-known}
+use Rattle.convert.proofs.with_extra.Statement.{statement}
+use Rattle.convert.proofs.with_extra.Tie as tie
+
+-- a code of the standard is not refused
+returns : tie.Need-returns
+returns c =
+    let made = c .before .before .before in
+    let s = made .before in
+    let is = sym (code-known (s .args .code) (s .pre)) ∙ sym (made .new .ensures) ∙ c .before .enum-told .given .1 in
+    let z : _≡_ {A = ℕ} 0 1 = cc in
+    absurd (omega arith)
+
+is-coded : (x : tie.After-format) → x .format .given .0 .0 ≡ coded (x .before .before .before .args .code) false
+is-coded x =
+    let s = x .before .before .before in
+    let is = sym (code-known (s .args .code) (s .pre)) ∙ sym (x .before .before .new .ensures) ∙ x .format .given .1 in
+    cc
+
+returns-2 : tie.Need-returns-2
+unfolding withExtra
+returns-2 c =
+    let same = is-coded (c .before) in
+    λ i. record {
+      «has_gps_time» = same i .«has_gps_time»;
+      «has_color» = same i .«has_color»;
+      «is_extended» = same i .«is_extended»;
+      «has_waveform» = same i .«has_waveform»;
+      «has_nir» = same i .«has_nir»;
+      «extra_bytes» = c .before .before .before .before .args .extra;
+      «is_compressed» = same i .«is_compressed»;
+    }
+
+pub with-extra-spec : {M : Type 1} → statement M
+with-extra-spec = tie.close (tie.spec (λ c κs. search needs) (λ c. search needs) (λ c. search needs) (λ c κs. search needs) returns returns-2)

@@ -1,0 +1,4 @@
+pub mod Pairs
+pub mod Run
+pub mod Asked
+pub mod Laws
