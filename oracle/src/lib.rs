@@ -9,6 +9,7 @@ pub mod call;
 pub mod capi;
 pub mod convert;
 pub mod convert_model;
+pub mod convert_plain;
 pub mod convert_wrong;
 pub mod file;
 pub mod file_model;
