@@ -21,6 +21,18 @@ pub trait Library: Sync {
     fn to_new(&self, src: &[u8], run: (u8, u16, u64), dst: &mut [u8], row: &mut Row);
 }
 
+struct Port;
+
+impl Library for Port {
+    fn to_old(&self, src: &[u8], run: (u8, u16, u64), dst: &mut [u8], row: &mut Row) {
+        capi::convert_to_old(src, run, dst, row)
+    }
+
+    fn to_new(&self, src: &[u8], run: (u8, u16, u64), dst: &mut [u8], row: &mut Row) {
+        capi::convert_to_new(src, run, dst, row)
+    }
+}
+
 /// What a destination holds before a call, so that what is written where nothing may be shows.
 const BEFORE_BYTE: u8 = 0xa5;
 
@@ -612,7 +624,8 @@ fn edges<L: Library>(library: &L, _: Lot) -> Outcome {
             // would be left over.
             counts.extend([u64::MAX / length, u64::MAX / length + 1]);
             counts.extend([(1 << 32) / length, (1 << 32) / length + 1]);
-            counts.extend([0, 1, length, 3 * length].map(|product| wrapping(length, product)));
+            let left_over = [0, 1, 2, length - 1, length, length + 1, 3 * length];
+            counts.extend(left_over.map(|product| wrapping(length, product)));
             counts.extend((1..=6).map(|k| 1 << (64 - k)));
         }
         for count in counts {
@@ -766,4 +779,9 @@ pub fn compare_library(tally: &mut Tally, library: &impl Library) {
         often.check(times >= OFTEN, || format!("{number} only {times} times"));
     }
     tally.add(often);
+}
+
+pub fn compare(tally: &mut Tally) {
+    tally.add(compare_stand_ins());
+    compare_library(tally, &Port);
 }
