@@ -333,6 +333,47 @@ pub fn file_rewrite(file: &[u8], allowance: u64, dst: &mut [u8], row: &mut Row) 
     unsafe { las_file_rewrite(file.as_ptr(), file.len(), allowance, to, to_len, row) }
 }
 
+// A run is a format byte, a count of extra bytes and a count of records.
+#[link(name = "capi_convert", kind = "static")]
+unsafe extern "C" {
+    fn las_convert_to_old(
+        src: *const u8,
+        src_len: usize,
+        format: u8,
+        extra: u16,
+        count: u64,
+        dst: *mut u8,
+        dst_len: usize,
+        row: &mut Row,
+    );
+    fn las_convert_to_new(
+        src: *const u8,
+        src_len: usize,
+        format: u8,
+        extra: u16,
+        count: u64,
+        dst: *mut u8,
+        dst_len: usize,
+        row: &mut Row,
+    );
+}
+
+pub fn convert_to_old(src: &[u8], run: (u8, u16, u64), dst: &mut [u8], row: &mut Row) {
+    let (format, extra, count) = run;
+    let (from, from_len) = (src.as_ptr(), src.len());
+    let (to, to_len) = (dst.as_mut_ptr(), dst.len());
+    // SAFETY: both pointers go with the lengths of their borrowed slices.
+    unsafe { las_convert_to_old(from, from_len, format, extra, count, to, to_len, row) }
+}
+
+pub fn convert_to_new(src: &[u8], run: (u8, u16, u64), dst: &mut [u8], row: &mut Row) {
+    let (format, extra, count) = run;
+    let (from, from_len) = (src.as_ptr(), src.len());
+    let (to, to_len) = (dst.as_mut_ptr(), dst.len());
+    // SAFETY: both pointers go with the lengths of their borrowed slices.
+    unsafe { las_convert_to_new(from, from_len, format, extra, count, to, to_len, row) }
+}
+
 /// Lends a row to a call and gives back what it holds then. The row starts out with words that no
 /// answer has, so a word left unwritten is a difference.
 pub fn row(call: impl FnOnce(&mut Row)) -> Answer {

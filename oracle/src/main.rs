@@ -1,7 +1,8 @@
 //! Runs every comparison and says whether nothing differed.
 
 use oracle::{
-    angle, file, flags, format, header, listings, point, replay, replay_records, report::Tally, vlr,
+    angle, convert, convert_plain, file, flags, format, header, listings, point, replay,
+    replay_records, report::Tally, vlr,
 };
 use std::{env, io, path::Path, process::ExitCode};
 
@@ -15,6 +16,8 @@ fn compare(crates: &Path, write: bool) -> io::Result<bool> {
     vlr::compare(&mut tally);
     header::compare(&mut tally);
     file::compare(&mut tally);
+    convert::compare(&mut tally);
+    convert_plain::compare(&mut tally, &crates.join("../docs/DIFFERENCES.md"))?;
     replay::compare(&mut tally, &crates.join("replay"), write)?;
     replay_records::compare(&mut tally, &crates.join("replay_records"), write)?;
     listings::compare(&mut tally, &crates.join("listings"), write)?;
