@@ -19,7 +19,7 @@ use Rattle.format.specs.declared.FormatLen.the-variants as len
 use Rattle.format.specs.declared.Field.the-variants.{ExtraBytes}
 use Rattle.format.specs.declared.NewFormat.the-variants as new
 use Rattle.format.specs.Codes.{coded, formatOf}
-use Rattle.format.specs.Fields.{restOf, sizes, recordBytes, lenOf}
+use Rattle.format.specs.Fields.{restOf, sizes, lenOf}
 use Rattle.format.specs.Laws.{record-sum, rest-sum, len-is}
 use Rattle.point.specs.declared.Point.{Point}
 use Rattle.point.specs.declared.PointRead.the-variants.{Is}
@@ -42,13 +42,14 @@ use Rattle.convert.specs.Run.{turnedOf, imageOf, imagesOf, judgedBy, jud
 use Rattle.convert.specs.Asked.{Sound, Takes, TakesRun}
 
 -- a pair has as many extra bytes on both sides, and what is upgraded becomes extended
-abbrev PairSound : Bool → Pair → Type 0
+abbrev pub PairSound : Bool → Pair → Type 0
 PairSound up (Formats a b) = (a .«extra_bytes» ≡ b .«extra_bytes») × (up ≡ true → b .«is_extended» ≡ true)
 PairSound up None = Unit
 
-either : (up b : Bool) (x y : Pair) → PairSound up x → PairSound up y → PairSound up (cond b x y)
-either up true x y h k = h
-either up false x y h k = k
+-- what holds of two pairs holds of whichever is chosen
+pub either : (Q : Pair → Type 0) (b : Bool) (x y : Pair) → Q x → Q y → Q (cond b x y)
+either Q true x y h k = h
+either Q false x y h k = k
 
 pair-sound : (up : Bool) (source target extra : ℕ) → (up ≡ true → leb 6 target ≡ true) → PairSound up (pairOf source target extra)
 unfolding withExtra coded
@@ -61,13 +62,13 @@ pub old-sound : (n extra : ℕ) → PairSound false (oldPair n extra)
 unfolding oldPair
 old-sound n extra =
     let down : (source target : ℕ) → PairSound false (pairOf source target extra) = λ source target. pair-sound false source target extra not-up in
-    either false (eqb n 6) _ _ (down 6 1) (either false (eqb n 7) _ _ (down 7 3) (either false (eqb n 8) _ _ (down 8 3) (either false (eqb n 9) _ _ (down 9 4) (either false (eqb n 10) _ None (down 10 5) tt))))
+    either (PairSound false) (eqb n 6) _ _ (down 6 1) (either (PairSound false) (eqb n 7) _ _ (down 7 3) (either (PairSound false) (eqb n 8) _ _ (down 8 3) (either (PairSound false) (eqb n 9) _ _ (down 9 4) (either (PairSound false) (eqb n 10) _ None (down 10 5) tt))))
 
 pub new-sound : (n extra : ℕ) → PairSound true (newPair n extra)
 unfolding newPair
 new-sound n extra =
-    either true (eqb n 1) _ _ (pair-sound true 1 6 extra (λ _. refl)) (either true (eqb n 3) _ _ (pair-sound true 3 7 extra (λ _. refl))
-    (either true (eqb n 4) _ _ (pair-sound true 4 9 extra (λ _. refl)) (either true (eqb n 5) _ None (pair-sound true 5 10 extra (λ _. refl)) tt)))
+    either (PairSound true) (eqb n 1) _ _ (pair-sound true 1 6 extra (λ _. refl)) (either (PairSound true) (eqb n 3) _ _ (pair-sound true 3 7 extra (λ _. refl))
+    (either (PairSound true) (eqb n 4) _ _ (pair-sound true 4 9 extra (λ _. refl)) (either (PairSound true) (eqb n 5) _ None (pair-sound true 5 10 extra (λ _. refl)) tt)))
 
 -- a plan that is made of a pair is sound
 pub plan-sound : (up : Bool) (format : ℕ) (pair : Pair) (p : Plan) → PairSound up pair → plannedBy format pair ≡ planned.Is p → Sound up p

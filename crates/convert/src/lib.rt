@@ -1,7 +1,6 @@
 // Runs of point records, converted strictly down to an old format and upgraded to a new one, as document 01 adds. A run is
 // judged whole before its first byte is written; judging and writing are apart.
 ghost use mathlib.Core.Path.{_≡_};
-ghost use mathlib.Core.Bool.{true};
 ghost use mathlib.Core.List.{_++_};
 ghost use Prim.Native.Nat.{_*_, _≤_, _<_};
 ghost use lib.ListN.{length, drop};

@@ -1,11 +1,8 @@
 -- The tests are by division, which cannot wrap, and say what the exact products would.
 use Prim.Native.Nat.{_*_, _≤_, _<_}
-use mathlib.Core.Path.{ap, sym, _∙_}
-use mathlib.Core.Bool.{Bool}
-use borrow.Author.Needs.{needs}
 use borrow.Author.Tests.{le-ltb, lt-ltb}
 use lib.ListN.{length}
-use Rattle.convert.specs.Run.{recordsOf, judgedOf}
+use Rattle.convert.specs.Run.{judgedOf}
 use Rattle.convert.specs.Laws.{some-bytes}
 use Rattle.convert.proofs.Turn.{div-le, div-lt}
 use Rattle.convert.proofs.judge.Statement.{statement}

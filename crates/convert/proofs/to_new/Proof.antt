@@ -1,7 +1,7 @@
 use mathlib.Core.Path.{_≡_, ap, sym, _∙_}
-use mathlib.Core.Bool.{true, false}
+use mathlib.Core.Bool.{true}
 use borrow.Author.Needs.{needs}
-use Rattle.convert.specs.declared.Planned.the-variants.{Is, Refused}
+use Rattle.convert.specs.declared.Planned.the-variants.{Is}
 use Rattle.convert.specs.Pairs.{newPair, plannedBy}
 use Rattle.convert.specs.Run.{convertedBy, toNewOf}
 use Rattle.convert.specs.Laws.{new-sound, plan-sound}
