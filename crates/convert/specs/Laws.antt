@@ -55,7 +55,7 @@ pair-sound : (up : Bool) (source target extra : ℕ) → (up ≡ true → leb 6 
 unfolding withExtra coded
 pair-sound up source target extra h = (refl, h)
 
-not-up : {A : Type 0} → _≡_ {A = Bool} false true → A
+pub not-up : {A : Type 0} → _≡_ {A = Bool} false true → A
 not-up z = let y : _≡_ {A = ℕ} 0 1 = ap (λ (b : Bool). cond b 1 0) z in absurd (omega arith)
 
 pub old-sound : (n extra : ℕ) → PairSound false (oldPair n extra)

@@ -1,7 +1,11 @@
 pub mod Pairs
 pub mod Run
+pub mod Demand
+pub mod Theorems
 pub mod Asked
 pub mod Laws
+pub mod Told
 pub mod Each
+pub mod Exact
+pub mod Found
 pub mod Back
-pub mod Theorems

@@ -1,42 +1,68 @@
--- What the strict conversion of a run comes to. Demand 3, for every record.
-use Prim.Native.Nat.{ℕ, suc, _*_, _<_}
-use mathlib.Core.Path.{_≡_, subst}
-use mathlib.Core.Bool.{false}
+-- Demand 3, sentence by sentence, for every run: theorems about the promises of `to_old` and `to_new` alone. `toOldOf` and `toNewOf`
+-- (`Run.antt`) are their answer with the destination as it is left; all other words stand in `Demand.antt`. A run is `count` records in
+-- the bytes s, each with `extra` extra bytes; d is the destination before and e after; k is how many records stand before one.
+use Prim.Native.Nat.{ℕ, suc, _≤_, _<_}
+use mathlib.Core.Path.{_≡_}
 use mathlib.Core.List.{List}
-use native.Mathlib.Omega.{arith}
-use lib.ListN.{drop}
+use mathlib.Core.Logic.{_↔_}
+use lib.ListN.{length, drop}
 use Rattle.refusal.specs.declared.Refusal.{Refusal}
 use Rattle.le.specs.Le as le
-use Rattle.format.specs.declared.Field.the-variants.{ExtraBytes}
-use Rattle.point.specs.Read.{pointOf, fieldOf}
-use Rattle.strict.specs.declared.Fit.the-variants.{Fits}
-use Rattle.strict.specs.Fit.{fitOf}
-use Rattle.strict.specs.Shown.{Same, Unshown, Paired}
-use Rattle.strict.specs.Theorems.{refused-only-then}
-use Rattle.convert.specs.declared.Plan.{Plan}
-use Rattle.convert.specs.declared.Planned.the-variants.{Is}
 use Rattle.convert.specs.declared.Converted.the-variants.{Bytes, Refused}
-use Rattle.convert.specs.Pairs.{oldPair, plannedBy}
-use Rattle.convert.specs.Run.{toOldOf}
-use Rattle.convert.specs.Laws.{old-sound, plan-sound}
-use Rattle.convert.specs.Each.{nth, first-refused, written, plan-from, IsPaired, old-paired, each-shown, planned-by, left-alone, refused-run}
+use Rattle.convert.specs.Run.{toOldOf, toNewOf}
+use Rattle.convert.specs.Demand.{Down, Up, lengthOf, runLength, SameValues, FirstUnfit, Enough, No28, laid, Convertible, RefusedFor}
+use Rattle.convert.specs.Exact.{converted-then, then-converted, refused-then, then-refused}
+use Rattle.convert.specs.Found.{same-values, rest-stays, unfit-record}
+use Rattle.convert.specs.Back.{upgrade-answered, answered-back}
 
-module _ (format extra count : ℕ) (s d : List ℕ) where
-  -- "in every record, the same value in every field": an old reader of each record of a converted run finds what its source says
-  pub every-record : {n : ℕ} {e : List ℕ} → le.Bytes s → toOldOf format extra count s d ≡ (Bytes n, e) → (p : Plan) × (plannedBy format (oldPair format extra) ≡ Is p) × ((k : ℕ) → k < count → Same (pointOf (p .source) (nth (p .«source_length») k s)) (pointOf (p .target) (drop (k * p .«target_length») e)) × (fieldOf (p .target) ExtraBytes (drop (k * p .«target_length») e) ≡ fieldOf (p .source) ExtraBytes (nth (p .«source_length») k s)))
-  unfolding toOldOf
-  every-record bytes h =
-      let run = planned-by false count s d (plannedBy format (oldPair format extra)) h in
-      let p = run .0 in
-      let sound = plan-sound false format (oldPair format extra) p (old-sound format extra) (run .1) in
-      let pair : Paired (p .source) (p .target) = subst IsPaired (plan-from format (oldPair format extra) p (run .1)) (old-paired format extra) in
-      let w = written false p count s d (run .2) in
-      (p, run .1, each-shown p sound pair count s d bytes (w .0) (w .1))
+module _ {new old : ℕ} (pair : Down new old) (extra count : ℕ) (s d : List ℕ) where
+  -- "A run of format 6 to 10 records made strictly into its paired old format shows an old reader, in every record, the same value in
+  -- every field, scan angle to the nearest whole degree with halves away from zero."
+  pub every-record :
+      {n : ℕ} {e : List ℕ} → le.Bytes s → toOldOf new extra count s d ≡ (Bytes n, e)
+      → (k : ℕ) → k < count → SameValues new old extra k s e
+  every-record bytes converted = same-values pair extra count s d converted bytes
 
-  -- "Otherwise the .. first field that doesn't fit [is] named; it is refused only then": a refusal with a record number is of a record
-  -- whose named field no old record can show, all records before it fit, and the destination is as it was.
-  pub refused-record : {r : Refusal} {j : ℕ} {e : List ℕ} → toOldOf format extra count s d ≡ (Refused r j, e) → 0 < j → (p : Plan) × (plannedBy format (oldPair format extra) ≡ Is p) × (k : ℕ) × (j ≡ suc k) × (k < count) × Unshown (pointOf (p .source) (nth (p .«source_length») k s)) r × ((i : ℕ) → i < k → fitOf (pointOf (p .source) (nth (p .«source_length») i s)) ≡ Fits) × (e ≡ d)
-  refused-record {r} {j} {e} h some =
-      let run = refused-run format extra count s d h some in
-      let w = first-refused (run .0 .source) (run .0 .«source_length») 1 count s (run .2) in
-      (run .0, run .1, w .others, omega (arith, w .numbered), w .within, refused-only-then _ r (w .refused), w .earlier, left-alone format extra count s d h)
+  -- "If all fit, each record goes into the rest of the destination and bytes past the run stay."
+  pub past-the-run :
+      {n : ℕ} {e : List ℕ} → toOldOf new extra count s d ≡ (Bytes n, e)
+      → (n ≡ runLength old extra count) × (drop n e ≡ drop n d)
+  past-the-run = rest-stays pair extra count s d
+
+  -- "Otherwise the first record and first field that doesn't fit are named": the record is there, those before it fit, and what is named
+  -- does not fit, since no old record of the pair shows the same values.
+  pub refused-record :
+      {why : Refusal} {k : ℕ} {e : List ℕ} → toOldOf new extra count s d ≡ (Refused why (suc k), e)
+      → FirstUnfit new old extra count k s why
+  refused-record refused = unfit-record pair extra count s d (refused-then new extra count s d refused .0)
+
+-- "It is refused only then, a short buffer, an overlong record or a wrong format aside." Of any format code: a run is converted exactly
+-- when it has a pair, no record is overlong, no buffer short, and every record fits; it is refused, with a refusal and a record number,
+-- exactly when these are the first to hold in document 01's order. "A refusal writes nothing into lent memory."
+module _ (code extra count : ℕ) (s d : List ℕ) where
+  pub converted-exactly :
+      ((n : ℕ) × (e : List ℕ) × (toOldOf code extra count s d ≡ (Bytes n, e))) ↔ Convertible code extra count s d
+  converted-exactly = (λ w. converted-then code extra count s d (w .2), λ c. (_, _, then-converted code extra count s d c))
+
+  pub refused-exactly :
+      (why : Refusal) (j : ℕ)
+      → ((e : List ℕ) × (toOldOf code extra count s d ≡ (Refused why j, e))) ↔ RefusedFor code extra count s d why j
+  refused-exactly why j = (λ w. refused-then code extra count s d (w .1) .0, λ holds. (d, then-refused code extra count s d holds))
+
+  pub refused-unwritten : {why : Refusal} {j : ℕ} {e : List ℕ} → toOldOf code extra count s d ≡ (Refused why j, e) → e ≡ d
+  refused-unwritten refused = refused-then code extra count s d refused .1
+
+-- "An old record with a pair, whose class isn't 28 and whose new record isn't overlong, brought up and strictly down again, has its own
+-- bytes." Where no buffer is short the upgrade is answered; what it leaves, made old into any d′ with room, is the run's own bytes there,
+-- and what lies past them stays.
+module _ {old new : ℕ} (pair : Up old new) (extra count : ℕ) (s d : List ℕ) where
+  pub upgraded-run :
+      lengthOf new extra ≤ 65535 → Enough old new extra count s d
+      → (e : List ℕ) × (toNewOf old extra count s d ≡ (Bytes (runLength new extra count), e))
+  upgraded-run = upgrade-answered pair extra count s d
+
+  pub up-and-down-run :
+      {n : ℕ} {e : List ℕ} → le.Bytes s → toNewOf old extra count s d ≡ (Bytes n, e)
+      → No28 old extra count s → (d′ : List ℕ) → runLength old extra count ≤ length d′
+      → toOldOf new extra count e d′ ≡ (Bytes (runLength old extra count), laid (runLength old extra count) s d′)
+  up-and-down-run = answered-back pair extra count s d

@@ -2,14 +2,23 @@
 use Prim.Native.Nat.{ℕ, suc, _/_, _%_, _<_}
 use mathlib.Core.Path.{_≡_, refl, ap, sym, subst, _∙_}
 use mathlib.Core.Bool.{Bool, true, false, cond}
+use mathlib.Core.List.{List}
 use native.Mathlib.Omega.{arith}
 use borrow.Author.Tests.{ltb-true, eqb-false}
 use lib.Dec.{eqb, ltb}
 use lib.IntN.{ℤ}
 use mir.Syntax.{w8, w16}
-use mir.Val.{SFits, ofZ}
+use mir.Val.{SFits, ofZ, toZ}
+use mir.ValLaws.{toZ-fits}
 use Rattle.refusal.specs.declared.Refusal.{Refusal}
 use Rattle.refusal.specs.declared.Refusal.the-variants.{Overlap, Nir, Angle}
+use Rattle.le.specs.Le as le
+use Rattle.le.specs.Le.{num}
+use Rattle.le.specs.Laws.{num-lt}
+use Rattle.format.specs.declared.Format.{Format}
+use Rattle.format.specs.declared.Field.the-variants.{ScanAngle as AngleField}
+use Rattle.format.specs.Fields.{placeOf}
+use Rattle.flags.specs.declared.Flags.{Flags}
 use Rattle.flags.specs.declared.Flags.the-variants.{TwoByte}
 use Rattle.flags.specs.Readings.{returnNumberOf, numberOfReturnsOf, classOf, channelOf, overlapOf, standardOverlapOf}
 use Rattle.angle.specs.declared.ScanAngle.{ScanAngle}
@@ -18,23 +27,40 @@ use Rattle.angle.specs.Angle.{nearestRank, toScaled}
 use Rattle.point.specs.declared.MaybeNir.{MaybeNir}
 use Rattle.point.specs.declared.MaybeNir.the-variants.{Some, None}
 use Rattle.point.specs.declared.Point.{Point}
+use Rattle.point.specs.Read.{flagsAt, angleAt, nirAt, pointOf}
 use Rattle.strict.specs.declared.Fit.{Fit}
 use Rattle.strict.specs.declared.Fit.the-variants.{Fits, Refused}
 use Rattle.strict.specs.Fit.{firstOf, overlapGoes, readingsFit, flagsFitOf, nirFitOf, rankFits, scaledFitOf, angleFitOf, fitOf}
-use Rattle.strict.specs.Shown.{exactRank, nirNumber, Unshown, return-number, number-of-returns, class, channel, overlap, nir, angle}
+use Rattle.strict.specs.Shown.{exactRank, nirNumber, Same, Never, Unshown, return-number, number-of-returns, class, channel, overlap, nir, angle}
 use Rattle.strict.specs.Laws.{not-refused, read-goes}
 use Rattle.strict.specs.Whole.{exact-fits}
 
--- what one test of a chain leaves
-module _ (p : Point) (why : Refusal) where
-  named : (x : Refusal) → Unshown p x → Refused x ≡ Refused why → Unshown p why
-  named x u e = let same : x ≡ why = cc in subst (λ (r : Refusal). Unshown p r) same u
+-- what an old record says of flags, near infrared and angle
+module _ (old : Format) (is-old : old .«is_extended» ≡ false) (no-nir : old .«has_nir» ≡ false) (t : List ℕ) where
+  old-flags : pointOf old t .flags ≡ TwoByte (num 1 14 t) (num 1 15 t)
+  unfolding pointOf flagsAt
+  old-flags = rw is-old
 
-  past : (t : Bool) (x : Refusal) (y : Fit) → (t ≡ true → Unshown p x) → (y ≡ Refused why → Unshown p why) → cond t (Refused x) y ≡ Refused why → Unshown p why
+  old-nir : nirNumber (pointOf old t .nir) ≡ 0
+  unfolding pointOf nirAt
+  old-nir = rw no-nir
+
+  old-rank : le.Bytes t → (r : ℤ) × SFits w8 r × (pointOf old t .«scan_angle» ≡ Rank r)
+  unfolding pointOf angleAt
+  old-rank bytes =
+      let at = placeOf old AngleField in
+      (toZ w8 (num 1 at t), toZ-fits w8 (num 1 at t) (record { fits = num-lt 1 t at bytes }), rw is-old)
+
+-- what one test of a chain leaves
+module _ (old : Format) (is-old : old .«is_extended» ≡ false) (no-nir : old .«has_nir» ≡ false) (p : Point) (why : Refusal) where
+  named : (x : Refusal) → Unshown old p x → Refused x ≡ Refused why → Unshown old p why
+  named x u e = let same : x ≡ why = cc in subst (λ (r : Refusal). Unshown old p r) same u
+
+  past : (t : Bool) (x : Refusal) (y : Fit) → (t ≡ true → Unshown old p x) → (y ≡ Refused why → Unshown old p why) → cond t (Refused x) y ≡ Refused why → Unshown old p why
   past true x y u v e = named x (u refl) e
   past false x y u v e = v e
 
-  last : (t : Bool) (x : Refusal) → (t ≡ false → Unshown p x) → cond t Fits (Refused x) ≡ Refused why → Unshown p why
+  last : (t : Bool) (x : Refusal) → (t ≡ false → Unshown old p x) → cond t Fits (Refused x) ≡ Refused why → Unshown old p why
   last true x u e = not-refused why (sym e)
   last false x u e = named x (u refl) e
 
@@ -45,8 +71,13 @@ module _ (p : Point) (why : Refusal) where
   large : (limit n : ℕ) → ltb limit n ≡ true → (m : ℕ) → m < suc limit → m ≡ n → ⊥
   large limit n t m h e = omega (arith, ltb-true limit n t)
 
-  overlap-named : overlapGoes (overlapOf (p .flags)) (classOf (p .flags)) ≡ false → Unshown p (Overlap (classOf (p .flags)))
-  overlap-named t = overlap (λ x y k rust standard. none x y k rust standard)
+  -- what no two bytes say no old record says
+  never : (says : Flags → Type 0) → ((x y : ℕ) → says (TwoByte x y) → ⊥) → Never old (λ q. says (q .flags))
+  never says none t bytes s = none (num 1 14 t) (num 1 15 t) (subst says (old-flags old is-old no-nir t) s)
+
+  overlap-named : overlapGoes (overlapOf (p .flags)) (classOf (p .flags)) ≡ false → Unshown old p (Overlap (classOf (p .flags)))
+  overlap-named t =
+      overlap (never (λ g. (classOf g ≡ classOf (p .flags)) × (overlapOf g ≡ overlapOf (p .flags)) × (standardOverlapOf g ≡ overlapOf (p .flags))) (λ x y s. none x y (s .0) (s .1) (s .2)))
     where
       none : (x y : ℕ) → classOf (TwoByte x y) ≡ classOf (p .flags) → overlapOf (TwoByte x y) ≡ overlapOf (p .flags) → standardOverlapOf (TwoByte x y) ≡ overlapOf (p .flags) → ⊥
       none x y k rust standard =
@@ -54,33 +85,48 @@ module _ (p : Point) (why : Refusal) where
           let goes : overlapGoes (overlapOf (p .flags)) (y % 32) ≡ true = read-goes (y % 32) (overlapOf (p .flags)) (ap (λ (m : ℕ). eqb m 12) low ∙ rust) standard in
           differ (sym (subst (λ (c : ℕ). overlapGoes (overlapOf (p .flags)) c ≡ true) k goes) ∙ t)
 
-  flags-named : flagsFitOf (p .flags) ≡ Refused why → Unshown p why
+  flags-named : flagsFitOf (p .flags) ≡ Refused why → Unshown old p why
   unfolding flagsFitOf readingsFit
   flags-named =
       let f = p .flags in
-      past (ltb 7 (returnNumberOf f)) _ _ (λ t. return-number (λ x y. large 7 (returnNumberOf f) t (x % 8) (omega arith)))
-      (past (ltb 7 (numberOfReturnsOf f)) _ _ (λ t. number-of-returns (λ x y. large 7 (numberOfReturnsOf f) t (x / 8 % 8) (omega arith)))
-      (past (ltb 31 (classOf f)) _ _ (λ t. class (λ x y. large 31 (classOf f) t (y % 32) (omega arith)))
-      (past (ltb 0 (channelOf f)) _ _ (λ t. channel (λ x y. large 0 (channelOf f) t 0 (omega arith)))
+      past (ltb 7 (returnNumberOf f)) _ _ (λ t. return-number (never (λ g. returnNumberOf g ≡ returnNumberOf f) (λ x y. large 7 (returnNumberOf f) t (x % 8) (omega arith))))
+      (past (ltb 7 (numberOfReturnsOf f)) _ _ (λ t. number-of-returns (never (λ g. numberOfReturnsOf g ≡ numberOfReturnsOf f) (λ x y. large 7 (numberOfReturnsOf f) t (x / 8 % 8) (omega arith))))
+      (past (ltb 31 (classOf f)) _ _ (λ t. class (never (λ g. classOf g ≡ classOf f) (λ x y. large 31 (classOf f) t (y % 32) (omega arith))))
+      (past (ltb 0 (channelOf f)) _ _ (λ t. channel (never (λ g. channelOf g ≡ channelOf f) (λ x y. large 0 (channelOf f) t 0 (omega arith))))
       (last (overlapGoes (overlapOf f) (classOf f)) _ overlap-named))))
 
-  nir-named : (n : MaybeNir) → p .nir ≡ n → nirFitOf n ≡ Refused why → Unshown p why
+  nir-named : (n : MaybeNir) → p .nir ≡ n → nirFitOf n ≡ Refused why → Unshown old p why
   nir-named (Some n) is e =
       let same : nirNumber (p .nir) ≡ n = ap nirNumber is in
-      last (eqb n 0) (Nir n) (λ t. subst (λ (m : ℕ). Unshown p (Nir m)) same (nir (λ z. eqb-false n 0 t (sym same ∙ z)))) e
+      last (eqb n 0) (Nir n) (λ t. subst (λ (m : ℕ). Unshown old p (Nir m)) same (nir (λ b _ z. eqb-false n 0 t (sym same ∙ sym z ∙ old-nir old is-old no-nir b)))) e
   nir-named None is e = not-refused why (sym e)
 
-  angle-named : (a : ScanAngle) → p .«scan_angle» ≡ a → angleFitOf a ≡ Refused why → Unshown p why
+  angle-named : (a : ScanAngle) → p .«scan_angle» ≡ a → angleFitOf a ≡ Refused why → Unshown old p why
   unfolding scaledFitOf
   angle-named (Rank r) is e = not-refused why (sym e)
-  angle-named (Scaled n) is e =
-      let none : (r : ℤ) → SFits w8 r → r ≡ exactRank (p .«scan_angle») → ⊥ = λ r h same. not-refused why (sym e ∙ exact-fits (Scaled n) r h (same ∙ ap exactRank is)) in
-      last (rankFits (nearestRank n)) _ (λ t. subst (λ (a : ScanAngle). Unshown p (Angle (ofZ w16 (toScaled a)))) is (angle none)) e
+  angle-named (Scaled n) is e = last (rankFits (nearestRank n)) _ (λ t. subst (λ (a : ScanAngle). Unshown old p (Angle (ofZ w16 (toScaled a)))) is (angle none)) e
+    where
+      none : Never old (λ q. q .«scan_angle» ≡ Rank (exactRank (p .«scan_angle»)))
+      none t bytes same =
+          let found = old-rank old is-old no-nir t bytes in
+          let r = found .0 in
+          let rank : r ≡ exactRank (p .«scan_angle») = cc (found .2, same) in
+          not-refused why (sym e ∙ exact-fits (Scaled n) r (found .1) (rank ∙ ap exactRank is))
 
-  pub refusal-named : fitOf p ≡ Refused why → Unshown p why
+  pub refusal-named : fitOf p ≡ Refused why → Unshown old p why
   unfolding fitOf
   refusal-named = either (flagsFitOf (p .flags)) _ flags-named (either (nirFitOf (p .nir)) _ (nir-named (p .nir) refl) (angle-named (p .«scan_angle») refl))
     where
-      either : (f g : Fit) → (f ≡ Refused why → Unshown p why) → (g ≡ Refused why → Unshown p why) → firstOf f g ≡ Refused why → Unshown p why
+      either : (f g : Fit) → (f ≡ Refused why → Unshown old p why) → (g ≡ Refused why → Unshown old p why) → firstOf f g ≡ Refused why → Unshown old p why
       either Fits g u v e = v e
       either (Refused r) g u v e = u e
+
+-- and so no old record shows the point
+pub unshown-never : {old : Format} {p : Point} {why : Refusal} → Unshown old p why → Never old (Same p)
+unshown-never (return-number none) t bytes same = none t bytes (same .flags .return-number)
+unshown-never (number-of-returns none) t bytes same = none t bytes (same .flags .number-of-returns)
+unshown-never (class none) t bytes same = none t bytes (same .flags .class)
+unshown-never (channel none) t bytes same = none t bytes (same .flags .channel)
+unshown-never (overlap none) t bytes same = none t bytes (same .flags .class, same .flags .overlap, same .flags .overlap-standard)
+unshown-never (nir none) t bytes same = none t bytes (same .nir)
+unshown-never (angle none) t bytes same = none t bytes (same .«scan_angle»)

@@ -5,8 +5,9 @@ use mathlib.Core.Path.{_≡_}
 use mathlib.Core.Bool.{true, false}
 use mathlib.Core.List.{List}
 use lib.IntN.{ℤ}
-use mir.Syntax.{w8, w16}
-use mir.Val.{SFits, ofZ}
+use mir.Syntax.{w16}
+use mir.Val.{ofZ}
+use Rattle.le.specs.Le as le
 use Rattle.format.specs.declared.Format.{Format}
 use Rattle.format.specs.declared.Field.the-variants.{ExtraBytes}
 use Rattle.refusal.specs.declared.Refusal.{Refusal}
@@ -72,16 +73,20 @@ pub record Same (p q : Point) : Type 0 where
   pub waveform : q .waveform ≡ p .waveform
   pub nir : nirNumber (q .nir) ≡ nirNumber (p .nir)
 
--- What a refusal names, with its value: a reading that no two bytes have; the class, where no two bytes have it with the overlap
--- that is said, as both old readers take it; near infrared; an angle whose nearest whole degree is no rank.
-pub data Unshown (p : Point) : Refusal → Type 0 where
-  return-number : ((x y : ℕ) → returnNumberOf (TwoByte x y) ≡ returnNumberOf (p .flags) → ⊥) → Unshown p (ReturnNumber (returnNumberOf (p .flags)))
-  number-of-returns : ((x y : ℕ) → numberOfReturnsOf (TwoByte x y) ≡ numberOfReturnsOf (p .flags) → ⊥) → Unshown p (NumberOfReturns (numberOfReturnsOf (p .flags)))
-  class : ((x y : ℕ) → classOf (TwoByte x y) ≡ classOf (p .flags) → ⊥) → Unshown p (Class (classOf (p .flags)))
-  channel : ((x y : ℕ) → channelOf (TwoByte x y) ≡ channelOf (p .flags) → ⊥) → Unshown p (Channel (channelOf (p .flags)))
-  overlap : ((x y : ℕ) → classOf (TwoByte x y) ≡ classOf (p .flags) → overlapOf (TwoByte x y) ≡ overlapOf (p .flags) → standardOverlapOf (TwoByte x y) ≡ overlapOf (p .flags) → ⊥) → Unshown p (Overlap (classOf (p .flags)))
-  nir : (nirNumber (p .nir) ≡ 0 → ⊥) → Unshown p (Nir (nirNumber (p .nir)))
-  angle : ((r : ℤ) → SFits w8 r → r ≡ exactRank (p .«scan_angle») → ⊥) → Unshown p (Angle (ofZ w16 (toScaled (p .«scan_angle»))))
+-- no old record says it: in no list of bytes does an old reader find such a point
+abbrev pub Never : Format → (Point → Type 0) → Type 0
+Never old says = (t : List ℕ) → le.Bytes t → says (pointOf old t) → ⊥
+
+-- What a refusal names, with its value: a reading that no old record has; the class, where none has it with the overlap that is
+-- said, as both old readers take it; near infrared; an angle whose nearest whole degree is no record's rank.
+pub data Unshown (old : Format) (p : Point) : Refusal → Type 0 where
+  return-number : Never old (λ q. returnNumberOf (q .flags) ≡ returnNumberOf (p .flags)) → Unshown old p (ReturnNumber (returnNumberOf (p .flags)))
+  number-of-returns : Never old (λ q. numberOfReturnsOf (q .flags) ≡ numberOfReturnsOf (p .flags)) → Unshown old p (NumberOfReturns (numberOfReturnsOf (p .flags)))
+  class : Never old (λ q. classOf (q .flags) ≡ classOf (p .flags)) → Unshown old p (Class (classOf (p .flags)))
+  channel : Never old (λ q. channelOf (q .flags) ≡ channelOf (p .flags)) → Unshown old p (Channel (channelOf (p .flags)))
+  overlap : Never old (λ q. (classOf (q .flags) ≡ classOf (p .flags)) × (overlapOf (q .flags) ≡ overlapOf (p .flags)) × (standardOverlapOf (q .flags) ≡ overlapOf (p .flags))) → Unshown old p (Overlap (classOf (p .flags)))
+  nir : Never old (λ q. nirNumber (q .nir) ≡ nirNumber (p .nir)) → Unshown old p (Nir (nirNumber (p .nir)))
+  angle : Never old (λ q. q .«scan_angle» ≡ Rank (exactRank (p .«scan_angle»))) → Unshown old p (Angle (ofZ w16 (toScaled (p .«scan_angle»))))
 
 -- a new format and the old one of its pair: the same but for their kind, the near infrared and nothing else
 pub record Paired (new old : Format) : Type 0 where

@@ -18,11 +18,12 @@ use Rattle.angle.specs.declared.ScanAngle.the-variants.{Rank, Scaled}
 use Rattle.angle.specs.Angle.{nearest, nearestRank, held, rankOf, scaledOf, toRank, toScaled}
 use Rattle.point.specs.declared.Point.{Point}
 use Rattle.point.specs.Read.{fieldOf, pointOf}
+use Rattle.strict.specs.declared.Fit.{Fit}
 use Rattle.strict.specs.declared.Fit.the-variants.{Fits, Refused}
 use Rattle.strict.specs.Fit.{overlapGoes, readingsFit, flagsFitOf, rankFits, scaledFitOf, angleFitOf, fitOf}
 use Rattle.strict.specs.Upgrade.{upgradedFlags}
-use Rattle.strict.specs.Shown.{Same, Unshown, Paired, downImage, upImage}
-use Rattle.strict.specs.Named.{refusal-named}
+use Rattle.strict.specs.Shown.{Same, Never, Unshown, Paired, downImage, upImage}
+use Rattle.strict.specs.Named.{refusal-named, unshown-never}
 use Rattle.strict.specs.Record.{image-same, image-back}
 
 module _ (new old : Format) (pair : Paired new old) (s : List ℕ) (all : le.Bytes s) (rest : List ℕ) where
@@ -35,9 +36,22 @@ module _ (new old : Format) (pair : Paired new old) (s : List ℕ) (all : le.Byt
   pub up-and-down : recordBytes old ≤ length s → (classOf (pointOf old s .flags) ≡ 28 → ⊥) → (fitOf (pointOf new (upImage old new s ++ rest)) ≡ Fits) × (downImage new old (upImage old new s ++ rest) ≡ take (recordBytes old) s)
   up-and-down = image-back new old pair s all rest
 
--- "Otherwise the .. first field that doesn't fit [is] named; it is refused only then": what is named, no old record can show.
-pub refused-only-then : (p : Point) (why : Refusal) → fitOf p ≡ Refused why → Unshown p why
-refused-only-then = refusal-named
+-- "Otherwise the .. first field that doesn't fit [is] named; it is refused only then": what is named no old record of the pair has,
+-- so that none shows the same values.
+module _ (new old : Format) (pair : Paired new old) (p : Point) where
+  pub refused-only-then : (why : Refusal) → fitOf p ≡ Refused why → Unshown old p why
+  refused-only-then = refusal-named old (pair .is-old) (pair .no-nir) p
+
+  pub no-old-record-shows-it : (why : Refusal) → fitOf p ≡ Refused why → Never old (Same p)
+  no-old-record-shows-it why refused = unshown-never (refused-only-then why refused)
+
+  -- The other way round, a point that any old record shows fits.
+  pub fits-if-shown : (t : List ℕ) → le.Bytes t → Same p (pointOf old t) → fitOf p ≡ Fits
+  fits-if-shown t bytes same = go (fitOf p) refl
+    where
+      go : (x : Fit) → fitOf p ≡ x → fitOf p ≡ Fits
+      go Fits e = e
+      go (Refused why) e = absurd (no-old-record-shows-it why e t bytes same)
 
 -- Document 01's numbers, "P: proved together, one list, one statement about the definitions".
 pub worked :

@@ -1,0 +1,114 @@
+-- The words that demand 3 is stated in: pairs of codes, the records of a run, and why a run is refused.
+use Prim.Native.Nat.{ℕ, suc, _*_, _≤_, _<_}
+use mathlib.Core.Path.{_≡_}
+use mathlib.Core.List.{List, _++_}
+use lib.ListN.{length, take, drop}
+use Rattle.refusal.specs.declared.Refusal.{Refusal}
+use Rattle.refusal.specs.declared.Refusal.the-variants.{NoPair, RecordLength, Short, NoRoom}
+use Rattle.format.specs.declared.Field.the-variants.{ExtraBytes}
+use Rattle.format.specs.Fields.{recordBytes}
+use Rattle.flags.specs.Readings.{classOf}
+use Rattle.point.specs.declared.Point.{Point}
+use Rattle.point.specs.Read.{pointOf, fieldOf}
+use Rattle.strict.specs.declared.Fit.the-variants as fit
+use Rattle.strict.specs.Fit.{fitOf}
+use Rattle.strict.specs.Shown.{Same, Never, Unshown}
+use Rattle.convert.specs.Pairs.{withExtra}
+use Rattle.convert.specs.Run.{wantedOf}
+
+-- "Pairs down: 6 to 1, 7 to 3, 8 to 3, 9 to 4, 10 to 5"
+pub data Down : ℕ → ℕ → Type 0 where
+  from-6 : Down 6 1
+  from-7 : Down 7 3
+  from-8 : Down 8 3
+  from-9 : Down 9 4
+  from-10 : Down 10 5
+
+-- "Up: 1 to 6, 3 to 7, 4 to 9, 5 to 10"
+pub data Up : ℕ → ℕ → Type 0 where
+  from-1 : Up 1 6
+  from-3 : Up 3 7
+  from-4 : Up 4 9
+  from-5 : Up 5 10
+
+-- the bytes of a record of the format with this code and `extra` extra bytes, and of `count` of them
+abbrev pub lengthOf : ℕ → ℕ → ℕ
+lengthOf code extra = recordBytes (withExtra code extra)
+
+abbrev pub runLength : ℕ → ℕ → ℕ → ℕ
+runLength code extra count = count * lengthOf code extra
+
+-- the record after k others of m bytes
+abbrev pub nth : ℕ → ℕ → List ℕ → List ℕ
+nth m k s = take m (drop (k * m) s)
+
+-- what a reader of a format finds in the record after k others, in a run or in a destination, and that record's extra bytes
+abbrev pub pointAt : ℕ → ℕ → ℕ → List ℕ → Point
+pointAt code extra k s = pointOf (withExtra code extra) (nth (lengthOf code extra) k s)
+
+abbrev pub extraAt : ℕ → ℕ → ℕ → List ℕ → List ℕ
+extraAt code extra k s = fieldOf (withExtra code extra) ExtraBytes (nth (lengthOf code extra) k s)
+
+-- "the same value in every field", of the record after k others: `Same`, in strict/specs/Shown.antt, is the list of readings (x, y, z,
+-- intensity, each reading of the flags, overlap as the Rust reads it and as the standard does, the angle, user data, source id, time,
+-- colour, waveform, near infrared, the bits of NaNs with their floats); and the extra bytes
+pub record SameValues (new old extra k : ℕ) (s e : List ℕ) : Type 0 where
+  pub readings : Same (pointAt new extra k s) (pointAt old extra k e)
+  pub extra-bytes : extraAt old extra k e ≡ extraAt new extra k s
+
+-- neither record is over 65,535 bytes
+abbrev pub NotOverlong : ℕ → ℕ → ℕ → Type 0
+NotOverlong source target extra = (lengthOf source extra ≤ 65535) × (lengthOf target extra ≤ 65535)
+
+-- neither the source nor the destination is short
+abbrev pub Enough : ℕ → ℕ → ℕ → ℕ → List ℕ → List ℕ → Type 0
+Enough source target extra count s d = (runLength source extra count ≤ length s) × (runLength target extra count ≤ length d)
+
+-- each of the first `count` records fits: document 01's record check, `fitOf` in strict/specs/Fit.antt, refuses none of its fields
+abbrev pub AllFit : ℕ → ℕ → ℕ → List ℕ → Type 0
+AllFit code extra count s = (k : ℕ) → k < count → fitOf (pointAt code extra k s) ≡ fit.Fits
+
+-- the record after k others is the first that does not fit, and `why` names the first of its fields that does not, in document 01's
+-- order: no old record of the pair has what `why` names, and so none shows the same values
+pub record FirstUnfit (new old extra count k : ℕ) (s : List ℕ) (why : Refusal) : Type 0 where
+  pub within : k < count
+  pub earlier-fit : AllFit new extra k s
+  pub first-field : fitOf (pointAt new extra k s) ≡ fit.Refused why
+  pub named : Unshown (withExtra old extra) (pointAt new extra k s) why
+  pub not-shown : Never (withExtra old extra) (Same (pointAt new extra k s))
+
+-- none has class 28
+abbrev pub No28 : ℕ → ℕ → ℕ → List ℕ → Type 0
+No28 code extra count s = (k : ℕ) → k < count → classOf (pointAt code extra k s .flags) ≡ 28 → ⊥
+
+-- the first m bytes of s at the front of d
+abbrev pub laid : ℕ → List ℕ → List ℕ → List ℕ
+laid m s d = take m s ++ drop m d
+
+module _ (code extra count : ℕ) (s d : List ℕ) where
+  -- a run that goes down: what must hold, in no order
+  pub record Convertible : Type 0 where
+    pub old : ℕ
+    pub pair : Down code old
+    pub not-overlong : NotOverlong code old extra
+    pub enough : Enough code old extra count s d
+    pub all-fit : AllFit code extra count s
+
+  -- "order: no pair 26; source, then target record over 65,535 bytes 8; source short 1; destination short 22. Then records in turn":
+  -- what a run is refused with, and the record's number, which is 0 where it is no record's
+  pub data RefusedFor : Refusal → ℕ → Type 0 where
+    no-pair : ((old : ℕ) → Down code old → ⊥) → RefusedFor (NoPair code) 0
+    source-overlong : {old : ℕ} → Down code old → 65535 < lengthOf code extra → RefusedFor (RecordLength (lengthOf code extra)) 0
+    target-overlong :
+        {old : ℕ} → Down code old → lengthOf code extra ≤ 65535 → 65535 < lengthOf old extra
+        → RefusedFor (RecordLength (lengthOf old extra)) 0
+    source-short :
+        {old : ℕ} → Down code old → NotOverlong code old extra → length s < runLength code extra count
+        → RefusedFor (Short (wantedOf (runLength code extra count))) 0
+    no-room :
+        {old : ℕ} → Down code old → NotOverlong code old extra → runLength code extra count ≤ length s → length d < runLength old extra count
+        → RefusedFor (NoRoom (wantedOf (runLength old extra count))) 0
+    of-record :
+        {old k : ℕ} {why : Refusal} → Down code old → NotOverlong code old extra → Enough code old extra count s d → k < count
+        → AllFit code extra k s → fitOf (pointAt code extra k s) ≡ fit.Refused why
+        → RefusedFor why (suc k)

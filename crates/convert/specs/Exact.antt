@@ -1,0 +1,104 @@
+-- When a run is converted, and what it is refused with: each of the words of `Demand.antt` exactly then.
+use Prim.Native.Nat.{ℕ, suc, _+_, _≤_}
+use mathlib.Core.Path.{_≡_, refl, ap, sym, subst, _∙_}
+use mathlib.Core.Bool.{Bool, true, false, cond}
+use mathlib.Core.List.{List, _++_}
+use mathlib.Core.Logic.{⊎-elim}
+use native.Mathlib.Omega.{arith}
+use borrow.Author.Tests.{le-ltb, lt-ltb, ltb-true, ltb-false}
+use lib.Dec.{ltb}
+use lib.ListN.{length, drop}
+use Rattle.refusal.specs.declared.Refusal.{Refusal}
+use Rattle.refusal.specs.declared.Refusal.the-variants.{RecordLength, Short, NoRoom}
+use Rattle.convert.specs.declared.Judged.{Judged}
+use Rattle.convert.specs.declared.Judged.the-variants as judged
+use Rattle.convert.specs.declared.Converted.{Converted}
+use Rattle.convert.specs.declared.Converted.the-variants as converted
+use Rattle.convert.specs.Pairs.{withExtra}
+use Rattle.convert.specs.Run.{wantedOf, imagesOf, judgeRun, judgedOf, ran, convertedOf, toOldOf}
+use Rattle.convert.specs.Demand.{Down, lengthOf, runLength, NotOverlong, Convertible, RefusedFor, no-pair, source-overlong, target-overlong, source-short, no-room, of-record}
+use Rattle.convert.specs.Laws.{goes}
+use Rattle.convert.specs.Told.{planOf, told, told-run, told-bytes, not-bytes, down-told, pair-or-none, none-told}
+use Rattle.convert.specs.Each.{fits-each, all-fit, first-refused, refused-at, written}
+
+module _ (code extra count : ℕ) (s d : List ℕ) where
+  -- a run that is converted is convertible, and a convertible one is converted
+  pub converted-then : {n : ℕ} {e : List ℕ} → toOldOf code extra count s d ≡ (converted.Bytes n, e) → Convertible code extra count s d
+  converted-then {n} {e} h = ⊎-elim (λ w. of-pair (w .0) (w .1)) (λ none. not-bytes _ 0 n d e (sym (none-told code none extra count s d) ∙ h)) (pair-or-none code)
+    where
+      of-pair : (old : ℕ) → Down code old → Convertible code extra count s d
+      of-pair old pair =
+          let a = withExtra code extra in
+          let b = withExtra old extra in
+          let run = told-bytes false a b count s d (sym (down-told pair extra count s d) ∙ h) in
+          let g = goes false (planOf a b) count s (length d) (written false (planOf a b) count s d (run .2) .fits) in
+          record { old = old; pair = pair; not-overlong = (run .0, run .1); enough = (g .there, g .fits); all-fit = fits-each a (lengthOf code extra) 1 count s (g .records) }
+
+  pub then-converted : (c : Convertible code extra count s d) → toOldOf code extra count s d ≡ (converted.Bytes (runLength (c .old) extra count), imagesOf false (planOf (withExtra code extra) (withExtra (c .old) extra)) count s ++ drop (runLength (c .old) extra count) d)
+  unfolding convertedOf judgedOf
+  then-converted c =
+      let a = withExtra code extra in
+      let b = withExtra (c .old) extra in
+      down-told (c .pair) extra count s d
+      ∙ told-run false a b count s d (c .not-overlong .0) (c .not-overlong .1)
+      ∙ rw (le-ltb (length s) (runLength code extra count) (c .enough .0), le-ltb (length d) (runLength (c .old) extra count) (c .enough .1), all-fit a (lengthOf code extra) 1 count s (c .all-fit))
+
+  -- a refusal that is the one found is told, with the destination as it was
+  same-refusal : {why r : Refusal} {i j : ℕ} {e : List ℕ} → RefusedFor code extra count s d why i → _≡_ {A = Converted × List ℕ} (converted.Refused why i, d) (converted.Refused r j, e) → RefusedFor code extra count s d r j × (e ≡ d)
+  same-refusal {why} {r} {i} {j} found h =
+      let q = ap (λ (w : Converted × List ℕ). w .0) h in
+      let same : why ≡ r = cc in
+      let number : i ≡ j = cc in
+      (subst (λ (k : ℕ). RefusedFor code extra count s d r k) number (subst (λ (x : Refusal). RefusedFor code extra count s d x i) same found), sym (ap (λ (w : Converted × List ℕ). w .1) h))
+
+  -- of a pair: the tests in their order
+  module _ {old : ℕ} (pair : Down code old) {r : Refusal} {j : ℕ} {e : List ℕ} where
+    record-refused : NotOverlong code old extra → runLength code extra count ≤ length s → runLength old extra count ≤ length d → (w : Judged) → judgeRun (withExtra code extra) (lengthOf code extra) 1 count s ≡ w → ran w (imagesOf false (planOf (withExtra code extra) (withExtra old extra)) count s) (runLength old extra count) d ≡ (converted.Refused r j, e) → RefusedFor code extra count s d r j × (e ≡ d)
+    record-refused long there room judged.Fits f h = not-bytes r j _ e _ (sym h)
+    record-refused long there room (judged.Refused why i) f h =
+        let w = first-refused (withExtra code extra) (lengthOf code extra) 1 count s f in
+        let number : suc (w .others) ≡ i = omega (arith, w .numbered) in
+        same-refusal (subst (λ (k : ℕ). RefusedFor code extra count s d why k) number (of-record pair long (there, room) (w .within) (w .earlier) (w .refused))) h
+
+    run-refused : NotOverlong code old extra → convertedOf false (planOf (withExtra code extra) (withExtra old extra)) count s d ≡ (converted.Refused r j, e) → RefusedFor code extra count s d r j × (e ≡ d)
+    unfolding convertedOf judgedOf
+    run-refused long = go (ltb (length s) (runLength code extra count)) (ltb (length d) (runLength old extra count)) refl refl
+      where
+        go : (x y : Bool) → ltb (length s) (runLength code extra count) ≡ x → ltb (length d) (runLength old extra count) ≡ y → ran (cond x (judged.Refused (Short (wantedOf (runLength code extra count))) 0) (cond y (judged.Refused (NoRoom (wantedOf (runLength old extra count))) 0) (judgeRun (withExtra code extra) (lengthOf code extra) 1 count s))) (imagesOf false (planOf (withExtra code extra) (withExtra old extra)) count s) (runLength old extra count) d ≡ (converted.Refused r j, e) → RefusedFor code extra count s d r j × (e ≡ d)
+        go true y f g h = same-refusal (source-short pair long (ltb-true _ _ f)) h
+        go false true f g h = same-refusal (no-room pair long (ltb-false _ _ f) (ltb-true _ _ g)) h
+        go false false f g h = record-refused long (ltb-false _ _ f) (ltb-false _ _ g) _ refl h
+
+    pair-refused : told false (withExtra code extra) (withExtra old extra) count s d ≡ (converted.Refused r j, e) → RefusedFor code extra count s d r j × (e ≡ d)
+    pair-refused = go (ltb 65535 (lengthOf code extra)) (ltb 65535 (lengthOf old extra)) refl refl
+      where
+        go : (x y : Bool) → ltb 65535 (lengthOf code extra) ≡ x → ltb 65535 (lengthOf old extra) ≡ y → cond x (converted.Refused (RecordLength (lengthOf code extra)) 0, d) (cond y (converted.Refused (RecordLength (lengthOf old extra)) 0, d) (convertedOf false (planOf (withExtra code extra) (withExtra old extra)) count s d)) ≡ (converted.Refused r j, e) → RefusedFor code extra count s d r j × (e ≡ d)
+        go true y f g h = same-refusal (source-overlong pair (ltb-true _ _ f)) h
+        go false true f g h = same-refusal (target-overlong pair (ltb-false _ _ f) (ltb-true _ _ g)) h
+        go false false f g h = run-refused (ltb-false _ _ f, ltb-false _ _ g) h
+
+  -- what a run is refused with holds of it, and with what holds of it it is refused; the destination is as it was
+  pub refused-then : {r : Refusal} {j : ℕ} {e : List ℕ} → toOldOf code extra count s d ≡ (converted.Refused r j, e) → RefusedFor code extra count s d r j × (e ≡ d)
+  refused-then h =
+      ⊎-elim (λ w. pair-refused (w .1) (sym (down-told (w .1) extra count s d) ∙ h))
+      (λ none. same-refusal (no-pair none) (sym (none-told code none extra count s d) ∙ h))
+      (pair-or-none code)
+
+  pub then-refused : {r : Refusal} {j : ℕ} → RefusedFor code extra count s d r j → toOldOf code extra count s d ≡ (converted.Refused r j, d)
+  unfolding convertedOf judgedOf
+  then-refused (no-pair none) = none-told code none extra count s d
+  then-refused (source-overlong pair l) = down-told pair extra count s d ∙ rw (lt-ltb 65535 (lengthOf code extra) l)
+  then-refused (target-overlong {old} pair h l) = down-told pair extra count s d ∙ rw (le-ltb 65535 (lengthOf code extra) h, lt-ltb 65535 (lengthOf old extra) l)
+  then-refused (source-short {old} pair long l) =
+      down-told pair extra count s d
+      ∙ told-run false (withExtra code extra) (withExtra old extra) count s d (long .0) (long .1)
+      ∙ rw (lt-ltb (length s) (runLength code extra count) l)
+  then-refused (no-room {old} pair long there l) =
+      down-told pair extra count s d
+      ∙ told-run false (withExtra code extra) (withExtra old extra) count s d (long .0) (long .1)
+      ∙ rw (le-ltb (length s) (runLength code extra count) there, lt-ltb (length d) (runLength old extra count) l)
+  then-refused (of-record {old} {k} {why} pair long enough within before refused) =
+      let number : 1 + k ≡ suc k = omega arith in
+      down-told pair extra count s d
+      ∙ told-run false (withExtra code extra) (withExtra old extra) count s d (long .0) (long .1)
+      ∙ rw (le-ltb (length s) (runLength code extra count) (enough .0), le-ltb (length d) (runLength old extra count) (enough .1), refused-at (withExtra code extra) (lengthOf code extra) 1 count s why k within before refused, number)

@@ -1,0 +1,55 @@
+-- What a converted run shows, and what a refused record is.
+use Prim.Native.Nat.{ℕ, suc, _<_}
+use mathlib.Core.Path.{_≡_, ap, sym, subst, _∙_}
+use mathlib.Core.Bool.{false}
+use mathlib.Core.List.{List}
+use lib.ListN.{length, drop}
+use lib.Seq.{drop-at}
+use Rattle.refusal.specs.declared.Refusal.{Refusal}
+use Rattle.le.specs.Le as le
+use Rattle.strict.specs.Theorems.{refused-only-then, no-old-record-shows-it}
+use Rattle.convert.specs.declared.Converted.the-variants as converted
+use Rattle.convert.specs.Pairs.{withExtra}
+use Rattle.convert.specs.Run.{imagesOf, toOldOf}
+use Rattle.convert.specs.Asked.{Sound}
+use Rattle.convert.specs.Demand.{Down, runLength, SameValues, FirstUnfit, RefusedFor, of-record}
+use Rattle.convert.specs.Laws.{not-up, goes, takes-all, images-length}
+use Rattle.convert.specs.Told.{planOf, told-bytes, plan-of-sound, down-paired, down-told}
+use Rattle.convert.specs.Each.{Written, written, each-shown}
+
+module _ {new old : ℕ} (pair : Down new old) (extra count : ℕ) (s d : List ℕ) where
+  module _ {n : ℕ} {e : List ℕ} (h : toOldOf new extra count s d ≡ (converted.Bytes n, e)) where
+    down-sound : Sound false (planOf (withExtra new extra) (withExtra old extra))
+    down-sound =
+        let run = told-bytes false _ _ count s d (sym (down-told pair extra count s d) ∙ h) in
+        plan-of-sound false _ _ (run .0) (run .1) (down-paired pair extra .extra) not-up
+
+    down-written : Written false (planOf (withExtra new extra) (withExtra old extra)) count s d n e
+    down-written = written false _ count s d (told-bytes false _ _ count s d (sym (down-told pair extra count s d) ∙ h) .2)
+
+    pub same-values : le.Bytes s → (k : ℕ) → k < count → SameValues new old extra k s e
+    same-values bytes k l =
+        let w = down-written in
+        let same = each-shown _ down-sound (down-paired pair extra) count s d bytes (w .fits) (w .stands) k l in
+        record { readings = same .0; extra-bytes = same .1 }
+
+    pub rest-stays : (n ≡ runLength old extra count) × (drop n e ≡ drop n d)
+    rest-stays =
+        let w = down-written in
+        let plan = planOf (withExtra new extra) (withExtra old extra) in
+        let g = goes false plan count s (length d) (w .fits) in
+        let size = images-length false plan down-sound count s (takes-all false plan down-sound count s (g .records)) (g .there) in
+        let past : drop (runLength old extra count) e ≡ drop (runLength old extra count) d = ap (drop (runLength old extra count)) (w .stands) ∙ drop-at (imagesOf false plan count s) _ _ size in
+        (w .many, subst (λ (m : ℕ). drop m e ≡ drop m d) (sym (w .many)) past)
+
+  -- a refusal with a record's number is that record's
+  pub unfit-record : {why : Refusal} {k : ℕ} → RefusedFor new extra count s d why (suc k) → FirstUnfit new old extra count k s why
+  unfit-record {why} (of-record {k = k} own long enough within before refused) =
+      let paired = down-paired pair extra in
+      record {
+        within = within;
+        earlier-fit = before;
+        first-field = refused;
+        named = refused-only-then _ _ paired _ why refused;
+        not-shown = no-old-record-shows-it _ _ paired _ why refused;
+      }

@@ -1,0 +1,143 @@
+-- A run of a pair, by the formats of its codes: where neither record is overlong it goes by their plan.
+use Prim.Native.Nat.{ℕ, _≤_}
+use mathlib.Core.Path.{_≡_, refl, ap, sym, subst}
+use mathlib.Core.Bool.{Bool, true, false, cond}
+use mathlib.Core.List.{List}
+use mathlib.Core.Logic.{_⊎_, inl, inr}
+use native.Mathlib.Omega.{arith}
+use borrow.Author.Tests.{le-ltb, ltb-false, eqb-true, eqb-false, ne-eqb}
+use lib.Dec.{eqb, ltb}
+use Rattle.refusal.specs.declared.Refusal.{Refusal}
+use Rattle.refusal.specs.declared.Refusal.the-variants.{NoPair, RecordLength}
+use Rattle.format.specs.declared.Format.{Format}
+use Rattle.format.specs.declared.FormatLen.the-variants as len
+use Rattle.format.specs.Codes.{isIn, coded}
+use Rattle.format.specs.Fields.{recordBytes, lenOf}
+use Rattle.format.specs.Laws.{record-sum}
+use Rattle.strict.specs.Shown.{Paired}
+use Rattle.convert.specs.declared.Pair.the-variants.{Formats}
+use Rattle.convert.specs.declared.Plan.{Plan}
+use Rattle.convert.specs.declared.Converted.{Converted}
+use Rattle.convert.specs.declared.Converted.the-variants as converted
+use Rattle.convert.specs.Pairs.{withExtra, oldPair, newPair, lengthsOf, plannedBy}
+use Rattle.convert.specs.Run.{convertedOf, convertedBy, toOldOf, toNewOf}
+use Rattle.convert.specs.Asked.{Sound}
+use Rattle.convert.specs.Demand.{Down, from-6, from-7, from-8, from-9, from-10, Up, from-1, from-3, from-4, from-5}
+
+-- the plan of two formats
+abbrev pub planOf : Format → Format → Plan
+planOf a b = record { source = a; target = b; «source_length» = recordBytes a; «target_length» = recordBytes b }
+
+-- "source, then target record over 65,535 bytes 8", and then by the plan
+abbrev pub told : Bool → Format → Format → ℕ → List ℕ → List ℕ → Converted × List ℕ
+told up a b count s d =
+    cond (ltb 65535 (recordBytes a)) (converted.Refused (RecordLength (recordBytes a)) 0, d)
+    (cond (ltb 65535 (recordBytes b)) (converted.Refused (RecordLength (recordBytes b)) 0, d)
+    (convertedOf up (planOf a b) count s d))
+
+-- a refusal is no count of bytes
+pub not-bytes : {A : Type 0} (r : Refusal) (j n : ℕ) (d e : List ℕ) → _≡_ {A = Converted × List ℕ} (converted.Refused r j, d) (converted.Bytes n, e) → A
+not-bytes r j n d e h =
+    let q = ap (λ (w : Converted × List ℕ). w .0) h in
+    let z : _≡_ {A = ℕ} 0 1 = cc in
+    absurd (omega arith)
+
+module _ (up : Bool) (a b : Format) where
+  module _ (count : ℕ) (s d : List ℕ) where
+    planned-told : (format : ℕ) → convertedBy up count s d (plannedBy format (Formats a b)) ≡ told up a b count s d
+    unfolding lenOf
+    planned-told format = go (ltb 65535 (recordBytes a)) (ltb 65535 (recordBytes b))
+      where
+        go : (x y : Bool) → convertedBy up count s d (lengthsOf a b (cond x (len.Refused (RecordLength (recordBytes a))) (len.Is (recordBytes a))) (cond y (len.Refused (RecordLength (recordBytes b))) (len.Is (recordBytes b)))) ≡ cond x (converted.Refused (RecordLength (recordBytes a)) 0, d) (cond y (converted.Refused (RecordLength (recordBytes b)) 0, d) (convertedOf up (planOf a b) count s d))
+        go true y = refl
+        go false true = refl
+        go false false = refl
+
+    pub told-run : recordBytes a ≤ 65535 → recordBytes b ≤ 65535 → told up a b count s d ≡ convertedOf up (planOf a b) count s d
+    told-run h l = rw (le-ltb 65535 (recordBytes a) h, le-ltb 65535 (recordBytes b) l)
+
+    pub told-bytes : {n : ℕ} {e : List ℕ} → told up a b count s d ≡ (converted.Bytes n, e) → (recordBytes a ≤ 65535) × (recordBytes b ≤ 65535) × (convertedOf up (planOf a b) count s d ≡ (converted.Bytes n, e))
+    told-bytes {n} {e} = go (ltb 65535 (recordBytes a)) (ltb 65535 (recordBytes b)) refl refl
+      where
+        go : (x y : Bool) → ltb 65535 (recordBytes a) ≡ x → ltb 65535 (recordBytes b) ≡ y → cond x (converted.Refused (RecordLength (recordBytes a)) 0, d) (cond y (converted.Refused (RecordLength (recordBytes b)) 0, d) (convertedOf up (planOf a b) count s d)) ≡ (converted.Bytes n, e) → (recordBytes a ≤ 65535) × (recordBytes b ≤ 65535) × (convertedOf up (planOf a b) count s d ≡ (converted.Bytes n, e))
+        go true y f g h = not-bytes _ 0 n d e h
+        go false true f g h = not-bytes _ 0 n d e h
+        go false false f g h = (ltb-false _ _ f, ltb-false _ _ g, h)
+
+  pub plan-of-sound : recordBytes a ≤ 65535 → recordBytes b ≤ 65535 → a .«extra_bytes» ≡ b .«extra_bytes» → (up ≡ true → b .«is_extended» ≡ true) → Sound up (planOf a b)
+  unfolding lenOf
+  plan-of-sound h l extra above =
+      record { from = rw (le-ltb 65535 (recordBytes a) h); into = rw (le-ltb 65535 (recordBytes b) l); extra = extra; above = above }
+
+-- the old record of a pair is the shorter
+pub shorter : (new old : Format) → Paired new old → recordBytes old ≤ recordBytes new
+shorter new old pair = rw (record-sum new, record-sum old, pair .is-new, pair .is-old, pair .time, pair .color, pair .waveform, pair .no-nir, pair .extra) (omega arith)
+
+-- the two formats of a pair of codes
+pair-paired : (new old extra : ℕ) → coded new false .«is_extended» ≡ true → coded old false .«is_extended» ≡ false → coded new false .«has_gps_time» ≡ coded old false .«has_gps_time» → coded new false .«has_color» ≡ coded old false .«has_color» → coded new false .«has_waveform» ≡ coded old false .«has_waveform» → coded old false .«has_nir» ≡ false → Paired (withExtra new extra) (withExtra old extra)
+unfolding withExtra
+pair-paired new old extra is-new is-old time color waveform nir =
+    record { is-new = is-new; is-old = is-old; time = time; color = color; waveform = waveform; no-nir = nir; extra = refl }
+
+pub down-paired : {new old : ℕ} → Down new old → (extra : ℕ) → Paired (withExtra new extra) (withExtra old extra)
+unfolding coded isIn
+down-paired from-6 extra = pair-paired 6 1 extra refl refl refl refl refl refl
+down-paired from-7 extra = pair-paired 7 3 extra refl refl refl refl refl refl
+down-paired from-8 extra = pair-paired 8 3 extra refl refl refl refl refl refl
+down-paired from-9 extra = pair-paired 9 4 extra refl refl refl refl refl refl
+down-paired from-10 extra = pair-paired 10 5 extra refl refl refl refl refl refl
+
+-- what a run of a pair is told, on the way down and up
+pub down-told : {new old : ℕ} → Down new old → (extra count : ℕ) (s d : List ℕ) → toOldOf new extra count s d ≡ told false (withExtra new extra) (withExtra old extra) count s d
+unfolding toOldOf oldPair
+down-told from-6 extra count s d = planned-told false (withExtra 6 extra) (withExtra 1 extra) count s d 6
+down-told from-7 extra count s d = planned-told false (withExtra 7 extra) (withExtra 3 extra) count s d 7
+down-told from-8 extra count s d = planned-told false (withExtra 8 extra) (withExtra 3 extra) count s d 8
+down-told from-9 extra count s d = planned-told false (withExtra 9 extra) (withExtra 4 extra) count s d 9
+down-told from-10 extra count s d = planned-told false (withExtra 10 extra) (withExtra 5 extra) count s d 10
+
+pub up-told : {old new : ℕ} → Up old new → (extra count : ℕ) (s d : List ℕ) → toNewOf old extra count s d ≡ told true (withExtra old extra) (withExtra new extra) count s d
+unfolding toNewOf newPair
+up-told from-1 extra count s d = planned-told true (withExtra 1 extra) (withExtra 6 extra) count s d 1
+up-told from-3 extra count s d = planned-told true (withExtra 3 extra) (withExtra 7 extra) count s d 3
+up-told from-4 extra count s d = planned-told true (withExtra 4 extra) (withExtra 9 extra) count s d 4
+up-told from-5 extra count s d = planned-told true (withExtra 5 extra) (withExtra 10 extra) count s d 5
+
+-- the way back from a new format
+pub way-back : {old new : ℕ} → Up old new → Down new old
+way-back from-1 = from-6
+way-back from-3 = from-7
+way-back from-4 = from-9
+way-back from-5 = from-10
+
+-- a code has a pair, or it has none and is refused with 26
+module _ (code : ℕ) where
+  pub pair-or-none : ((old : ℕ) × Down code old) ⊎ ((old : ℕ) → Down code old → ⊥)
+  pair-or-none = go (eqb code 6) (eqb code 7) (eqb code 8) (eqb code 9) (eqb code 10) refl refl refl refl refl
+    where
+      is : (new old : ℕ) → Down new old → eqb code new ≡ true → ((old : ℕ) × Down code old) ⊎ ((old : ℕ) → Down code old → ⊥)
+      is new old pair e = inl (old, subst (λ (c : ℕ). Down c old) (sym (eqb-true code new e)) pair)
+
+      none : {c old : ℕ} → Down c old → (c ≡ 6 → ⊥) → (c ≡ 7 → ⊥) → (c ≡ 8 → ⊥) → (c ≡ 9 → ⊥) → (c ≡ 10 → ⊥) → ⊥
+      none from-6 six seven eight nine ten = six refl
+      none from-7 six seven eight nine ten = seven refl
+      none from-8 six seven eight nine ten = eight refl
+      none from-9 six seven eight nine ten = nine refl
+      none from-10 six seven eight nine ten = ten refl
+
+      go : (a b c d e : Bool) → eqb code 6 ≡ a → eqb code 7 ≡ b → eqb code 8 ≡ c → eqb code 9 ≡ d → eqb code 10 ≡ e → ((old : ℕ) × Down code old) ⊎ ((old : ℕ) → Down code old → ⊥)
+      go true b c d e six seven eight nine ten = is 6 1 from-6 six
+      go false true c d e six seven eight nine ten = is 7 3 from-7 seven
+      go false false true d e six seven eight nine ten = is 8 3 from-8 eight
+      go false false false true e six seven eight nine ten = is 9 4 from-9 nine
+      go false false false false true six seven eight nine ten = is 10 5 from-10 ten
+      go false false false false false six seven eight nine ten =
+          inr (λ old pair. none pair (eqb-false code 6 six) (eqb-false code 7 seven) (eqb-false code 8 eight) (eqb-false code 9 nine) (eqb-false code 10 ten))
+
+  pub none-told : ((old : ℕ) → Down code old → ⊥) → (extra count : ℕ) (s d : List ℕ) → toOldOf code extra count s d ≡ (converted.Refused (NoPair code) 0, d)
+  unfolding toOldOf oldPair
+  none-told none extra count s d =
+      rw (ne-eqb code 6 (other 6 1 from-6), ne-eqb code 7 (other 7 3 from-7), ne-eqb code 8 (other 8 3 from-8), ne-eqb code 9 (other 9 4 from-9), ne-eqb code 10 (other 10 5 from-10))
+    where
+      other : (new old : ℕ) → Down new old → code ≡ new → ⊥
+      other new old pair q = none old (subst (λ (c : ℕ). Down c old) (sym q) pair)
