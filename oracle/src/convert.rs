@@ -757,7 +757,7 @@ pub fn compare_stand_ins() -> Report {
     let mut report = Report::new("converters with an error, told apart");
     let agrees = |error| parts(&StandIn { error }, FEW).all(|outcome| outcome.agrees());
     report.check(agrees(None), || "the one without an error differs".into());
-    for error in ERRORS {
+    for &error in ERRORS {
         report.check(!agrees(Some(error)), || format!("{error:?} isn't seen"));
     }
     report

@@ -6,9 +6,7 @@
 
 use crate::{capi::Row, convert::Library};
 
-/// What could be wrong in a port.
-#[derive(Clone, Copy, Debug, PartialEq, Eq)]
-pub enum Error {
+errors! {
     RefusesEveryRun,
     SameBytesEachTime,
     DestinationLeftAsFound,
@@ -49,50 +47,6 @@ pub enum Error {
     UpgradeLosesEdge,
     UpgradeNirOfColour,
 }
-use Error::*;
-
-/// Every error that can be put in.
-pub const ERRORS: [Error; 39] = [
-    RefusesEveryRun,
-    SameBytesEachTime,
-    DestinationLeftAsFound,
-    FirstRecordCopiedOnward,
-    OverlapOnClass2Convertible,
-    Class12WithoutOverlapConvertible,
-    Class28LetThrough,
-    Class28WithOverlapLetThrough,
-    ChannelIgnored,
-    NirDroppedSilently,
-    RankHeld,
-    RankHalvesTowardZero,
-    RankFractionDropped,
-    AngleValueSigned,
-    RecordNumberFrom0,
-    LastRecordNotJudged,
-    AnotherOrderOfFields,
-    AnotherOrderOfRefusals,
-    AngleBeforeNir,
-    WritesBeforeJudging,
-    RestOfDestinationCleared,
-    ProductIn64Bits,
-    ProductIn32Bits,
-    ValueOver64BitsWraps,
-    ExtraBytesDropped,
-    ExtraBytesOfFirstRecord,
-    NanBitsChanged,
-    WaveformNanBitsChanged,
-    LengthOfFormatForRecordLength,
-    SourceLengthNotSeen,
-    TargetLengthNotSeen,
-    RoomBeforeSource,
-    LengthBeforePair,
-    FormatByteMasked,
-    UpgradeAngleRounded,
-    UpgradeOverlapAtClass28,
-    UpgradeAsTheRustDoes,
-    UpgradeLosesEdge,
-    UpgradeNirOfColour,
-];
 
 pub struct StandIn {
     pub error: Option<Error>,

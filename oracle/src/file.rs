@@ -465,7 +465,7 @@ pub fn compare_stand_ins() -> Report {
         compare_with(library, FEW).agrees() && compare_places(library).agrees()
     };
     report.check(agrees(None), || "the one without an error differs".into());
-    for error in ERRORS {
+    for &error in ERRORS {
         report.check(!agrees(Some(error)), || format!("{error:?} isn't seen"));
     }
     report

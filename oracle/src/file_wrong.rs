@@ -13,9 +13,7 @@ use crate::{
 };
 use las::{point::Format, raw::Point};
 
-/// What could be wrong in a port.
-#[derive(Clone, Copy, Debug, PartialEq, Eq)]
-pub enum Error {
+errors! {
     SignatureAfterVersion,
     PaddingNotRead,
     FormatForVersionFirst,
@@ -58,52 +56,6 @@ pub enum Error {
     TrailingBytesNotCopied,
     WritesBeforeItRefuses,
 }
-use Error::*;
-
-/// Every error that can be put in.
-pub const ERRORS: [Error; 41] = [
-    SignatureAfterVersion,
-    PaddingNotRead,
-    FormatForVersionFirst,
-    LengthOfFormatForRecordLength,
-    PointOffsetAtEndRefused,
-    VlrsAfterStandardSize,
-    VlrsUpToEndOfFile,
-    ExtentBeforeAllowance,
-    AllowanceForVlrsOnly,
-    AllowanceForEachKind,
-    LengthThoughHeadEndsTooLate,
-    RecordNumbersAfresh,
-    CountNotAnsweredOnRefusal,
-    LargeCountFirst,
-    LargeCountIn32Bits,
-    ProductIn64Bits,
-    EvlrsBeforePoints,
-    EvlrStartAtEndRefused,
-    EvlrStartOnlyInFile,
-    EvlrLengthIn32Bits,
-    EvlrSumIn64Bits,
-    EvlrCountAlone,
-    LastGapDropped,
-    MiddleGapDropped,
-    EmptyGapsKept,
-    EmptyPointsOmitted,
-    TableFilledAsFarAsItGoes,
-    RestOfTableCleared,
-    RoomBeforeCheck,
-    WalkerWithoutExtraBytes,
-    WalkerStartsAgain,
-    WalkerAnswersHowManyItGave,
-    WalkerReadsPastWhatItIsShown,
-    WalkerLengthIn16Bits,
-    WalkerSumIn64Bits,
-    WalkerRefusalForgotten,
-    NumbersClearedAtEnd,
-    HalfEvlrPairKept,
-    WholeEvlrPairCleared,
-    TrailingBytesNotCopied,
-    WritesBeforeItRefuses,
-];
 
 pub struct StandIn {
     pub error: Option<Error>,

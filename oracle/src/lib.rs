@@ -3,6 +3,21 @@
 //! A module for each subject holds its calls and says over which inputs they are compared. A new
 //! subject adds its declarations to `capi`, a module beside these, and a line to main.rs.
 
+/// What could be wrong in a port, and the list of it all.
+macro_rules! errors {
+    ($($error:ident,)*) => {
+        /// What could be wrong in a port.
+        #[derive(Clone, Copy, Debug, PartialEq, Eq)]
+        pub enum Error {
+            $($error,)*
+        }
+        use Error::*;
+
+        /// Every error that can be put in.
+        pub const ERRORS: &[Error] = &[$($error,)*];
+    };
+}
+
 pub mod angle;
 pub mod answer;
 pub mod call;
