@@ -108,10 +108,9 @@ impl<'a> File<'a> {
         };
         let mut table = vec![0; wanted.saturating_mul(3)];
         let told = sys::file_parts(self.bytes, self.allowance, &mut table).unwrap_or(0);
-        let entries = table.chunks_exact(3).take(told);
-        let parts: Vec<Part> = entries.filter_map(Part::from_entry).collect();
+        table.truncate(told.saturating_mul(3));
         Parts {
-            parts: parts.into_iter(),
+            table: table.into_iter(),
         }
     }
 
@@ -122,22 +121,26 @@ impl<'a> File<'a> {
 
     /// The VLRs, which stand between the header and the points.
     pub fn vlrs(&self) -> Vlrs<'a> {
-        self.records_of(PartKind::Vlr)
+        let count = u64::from(self.header.number_of_variable_length_records);
+        self.records_of(PartKind::Vlr, count)
     }
 
     /// The EVLRs, which stand after the points.
     pub fn evlrs(&self) -> Vlrs<'a> {
-        self.records_of(PartKind::Evlr)
+        let count = self
+            .header
+            .evlrs
+            .map_or(0, |evlrs| u64::from(evlrs.number_of_evlrs));
+        self.records_of(PartKind::Evlr, count)
     }
 
-    fn records_of(&self, kind: PartKind) -> Vlrs<'a> {
-        let records: Vec<Vlr<'a>> = self
-            .parts()
-            .filter(|part| part.kind == kind)
-            .filter_map(|part| Vlr::read(self.part(part), kind == PartKind::Evlr).ok())
-            .collect();
+    /// The records of a kind, of which there are this many.
+    fn records_of(&self, kind: PartKind, count: u64) -> Vlrs<'a> {
         Vlrs {
-            records: records.into_iter(),
+            file: self.bytes,
+            parts: self.parts(),
+            kind,
+            left: sys::in_memory(count),
         }
     }
 
@@ -231,31 +234,25 @@ pub struct Part {
     pub len: u64,
 }
 
-impl Part {
-    /// The part of an entry of the library's table: kind, start and length.
-    fn from_entry(entry: &[u64]) -> Option<Part> {
-        match *entry {
-            [kind, start, len] => PartKind::from_number(kind).map(|kind| Part { kind, start, len }),
-            _ => None,
-        }
-    }
-}
-
 /// The parts of a file in their order; from [`File::parts`].
 #[derive(Clone, Debug)]
 pub struct Parts {
-    parts: vec::IntoIter<Part>,
+    /// Kind, start and length of each, as the library tells them.
+    table: vec::IntoIter<u64>,
 }
 
 impl Iterator for Parts {
     type Item = Part;
 
     fn next(&mut self) -> Option<Part> {
-        self.parts.next()
+        let kind = PartKind::from_number(self.table.next()?)?;
+        let (start, len) = (self.table.next()?, self.table.next()?);
+        Some(Part { kind, start, len })
     }
 
     fn size_hint(&self) -> (usize, Option<usize>) {
-        self.parts.size_hint()
+        let left = self.table.len() / 3;
+        (left, Some(left))
     }
 }
 
@@ -266,18 +263,25 @@ impl FusedIterator for Parts {}
 /// VLRs or EVLRs in their order; from [`File::vlrs`] and [`File::evlrs`].
 #[derive(Clone, Debug)]
 pub struct Vlrs<'a> {
-    records: vec::IntoIter<Vlr<'a>>,
+    file: &'a [u8],
+    parts: Parts,
+    kind: PartKind,
+    left: usize,
 }
 
 impl<'a> Iterator for Vlrs<'a> {
     type Item = Vlr<'a>;
 
     fn next(&mut self) -> Option<Vlr<'a>> {
-        self.records.next()
+        let kind = self.kind;
+        let part = self.parts.find(|part| part.kind == kind)?;
+        self.left = self.left.saturating_sub(1);
+        let bytes = sys::part_of(self.file, part.start, part.len);
+        Vlr::read(bytes, kind == PartKind::Evlr).ok()
     }
 
     fn size_hint(&self) -> (usize, Option<usize>) {
-        self.records.size_hint()
+        (self.left, Some(self.left))
     }
 }
 

@@ -53,7 +53,8 @@ impl Kind {
         })
     }
 
-    fn size(self) -> usize {
+    /// Its bytes.
+    pub(crate) fn size(self) -> usize {
         match self {
             Kind::Bytes(size) | Kind::Unsigned(size) | Kind::Signed(size) => size,
             Kind::Float => 4,

@@ -152,41 +152,48 @@ impl Row {
         format: &Format,
         extras: &[Extra],
     ) -> Result<Row, String> {
-        let chosen: Vec<String> = match choice {
-            None => USUAL
-                .iter()
-                .filter(|name| has(format, name))
-                .map(|name| name.to_string())
-                .collect(),
-            Some("all") => {
-                let described = extras.iter().map(|extra| extra.name.clone());
-                let all = names()
-                    .into_iter()
-                    .filter(|name| has(format, name))
-                    .map(String::from);
-                all.filter(|name| name != "extra" || extras.is_empty())
-                    .chain(described)
-                    .collect()
-            }
-            Some(list) => list
-                .split(',')
-                .map(|name| name.trim().to_string())
-                .collect(),
+        let standard = |name: &&str| {
+            let source = Source::standard(name).filter(|_| has(format, name))?;
+            Some(Field {
+                name: name.to_string(),
+                source,
+            })
         };
-        let mut fields = Vec::new();
-        for name in chosen {
-            let described = || {
-                extras
-                    .iter()
-                    .find(|extra| extra.name == name)
-                    .cloned()
-                    .map(Source::Extra)
-            };
-            match Source::standard(&name).or_else(described) {
-                Some(source) => fields.push(Field { name, source }),
-                None => return Err(unknown(&name, extras)),
+        let described = |extra: &Extra| Field {
+            name: extra.name.clone(),
+            source: Source::Extra(extra.clone()),
+        };
+        let fields = match choice {
+            None => USUAL.iter().filter_map(standard).collect(),
+            Some("all") => {
+                let told: usize = extras.iter().map(|extra| extra.kind.size()).sum();
+                let all_told = told == usize::from(format.extra_bytes);
+                let names = names()
+                    .into_iter()
+                    .filter(|name| *name != "extra" || !all_told);
+                let of_standard = names.filter_map(|name| standard(&name));
+                of_standard.chain(extras.iter().map(described)).collect()
             }
-        }
+            Some(list) => {
+                let named = list.split(',').map(|name| {
+                    let name = name.trim();
+                    let of_standard = Source::standard(name).map(|source| Field {
+                        name: name.to_string(),
+                        source,
+                    });
+                    let of_file = || {
+                        extras
+                            .iter()
+                            .find(|extra| extra.name == name)
+                            .map(described)
+                    };
+                    of_standard
+                        .or_else(of_file)
+                        .ok_or_else(|| unknown(name, extras))
+                });
+                named.collect::<Result<Vec<Field>, String>>()?
+            }
+        };
         Ok(Row {
             fields,
             scaled: (!raw).then(|| {

@@ -6,7 +6,7 @@ use super::{
     json::{self, Object},
     known,
     output::Output,
-    show::{counted, grouped},
+    show::{counted, grouped, plain, plain_or_none},
     Command, Failure, Status,
 };
 use inscjarol::{File, Header, PartKind, Vlr};
@@ -89,14 +89,6 @@ fn format_words(header: &Header) -> String {
     )
 }
 
-/// A text, or that there is none.
-fn or_none(text: &str) -> &str {
-    match text {
-        "" => "(none)",
-        text => text,
-    }
-}
-
 fn for_people(name: &str, file: &File<'_>, out: &mut Output) -> Result<(), Failure> {
     let header = file.header();
     let mut say = |what: &str, words: String| out.line(&format!("  {what:<22}{words}"));
@@ -125,8 +117,8 @@ fn for_people(name: &str, file: &File<'_>, out: &mut Output) -> Result<(), Failu
         "project id",
         known::guid(&header.guid).unwrap_or_else(|| String::from("(none)")),
     )?;
-    say("system", or_none(&header.system()).to_string())?;
-    say("software", or_none(&header.software()).to_string())?;
+    say("system", plain_or_none(&header.system()))?;
+    say("software", plain_or_none(&header.software()))?;
     say(
         "created",
         created.unwrap_or_else(|| {
@@ -152,10 +144,7 @@ fn for_people(name: &str, file: &File<'_>, out: &mut Output) -> Result<(), Failu
             header.offset_to_point_data
         ),
     )?;
-    say(
-        "points by return",
-        or_none(&by_return.join(", ")).to_string(),
-    )?;
+    say("points by return", plain_or_none(&by_return.join(", ")))?;
     say(
         "scale x y z",
         format!(
@@ -187,16 +176,16 @@ fn for_people(name: &str, file: &File<'_>, out: &mut Output) -> Result<(), Failu
             let description = vlr.about();
             let mut line = format!(
                 "  {number:>4}  {} {}, {} of data, from byte {start}",
-                or_none(&vlr.user()),
+                plain_or_none(&vlr.user()),
                 vlr.record_id,
                 counted(vlr.data.len() as u64, "byte"),
             );
             if !description.is_empty() {
-                line.push_str(&format!(", \"{description}\""));
+                line.push_str(&format!(", \"{}\"", plain(&description)));
             }
             out.line(&line)?;
             if let Some(meaning) = known::meaning(vlr) {
-                out.line(&format!("        {meaning}"))?;
+                out.line(&format!("        {}", plain(&meaning)))?;
             }
         }
     }

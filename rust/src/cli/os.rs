@@ -130,10 +130,10 @@ pub(crate) fn allocate(file: &File, len: u64) -> io::Result<()> {
     }
 }
 
-/// Whether what is written to the standard error appears on a terminal.
-pub(crate) fn is_watched() -> bool {
-    // SAFETY: a call on a number.
-    unsafe { isatty(STDERR) == 1 }
+/// Whether what is written there appears on a terminal.
+pub(crate) fn is_terminal(stream: &impl AsRawFd) -> bool {
+    // SAFETY: a call on the number of an open file.
+    unsafe { isatty(stream.as_raw_fd()) == 1 }
 }
 
 /// The file to be removed when a signal ends the tool; null for none.

@@ -84,7 +84,7 @@ fn write(words: &Words, name: &str, file: &File<'_>, out: &mut Output) -> Result
     if !out.json {
         out.line(&row.heading())?;
     }
-    let progress = Progress::new(format!("points of {name}"), Some(total));
+    let progress = Progress::of_output(format!("points of {name}"), total);
     let mut points = file
         .points()
         .skip(usize::try_from(skipped).unwrap_or(usize::MAX));
@@ -101,7 +101,9 @@ fn write(words: &Words, name: &str, file: &File<'_>, out: &mut Output) -> Result
         if lines.len() >= GATHERED {
             out.bytes(&lines)?;
             lines.clear();
-            progress.at(done);
+            if let Some(progress) = &progress {
+                progress.at(done);
+            }
         }
     }
     out.bytes(&lines)?;

@@ -38,7 +38,7 @@ impl Progress {
             over: AtomicBool::new(false),
         });
         let watched = Arc::clone(&state);
-        let watcher = os::is_watched().then(|| {
+        let watcher = os::is_terminal(&io::stderr()).then(|| {
             // Without a thread there is no line, and the work goes on.
             thread::Builder::new()
                 .spawn(move || watch(&watched, &what, total))
@@ -48,6 +48,11 @@ impl Progress {
             state,
             watcher: watcher.flatten(),
         }
+    }
+
+    /// Work that writes to the standard output: where that is a terminal too, its lines are what is watched.
+    pub(crate) fn of_output(what: String, total: u64) -> Option<Progress> {
+        (!os::is_terminal(&io::stdout())).then(|| Progress::new(what, Some(total)))
     }
 
     /// That this much is done.

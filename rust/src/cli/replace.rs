@@ -5,6 +5,7 @@ use std::{
     ffi::OsString,
     fs::{self, File, OpenOptions},
     io,
+    os::unix::fs::{OpenOptionsExt, PermissionsExt},
     path::{Path, PathBuf},
     process,
 };
@@ -26,14 +27,14 @@ impl Replacement {
     /// A file of this many bytes that is to take the place of the target. Where the target is there it has to be a regular
     /// file, or a link to one, which then stays a link.
     pub(crate) fn new(target: &Path, len: u64) -> io::Result<Replacement> {
-        let target = match fs::metadata(target) {
+        let (target, mode) = match fs::metadata(target) {
             Ok(about) if about.is_dir() => return Err(other("it is a folder, not a file")),
             Ok(about) if !about.is_file() => return Err(other("it is no regular file")),
-            Ok(_) => fs::canonicalize(target)?,
-            Err(error) if error.kind() == io::ErrorKind::NotFound => target.to_path_buf(),
+            Ok(about) => (fs::canonicalize(target)?, about.permissions().mode()),
+            Err(error) if error.kind() == io::ErrorKind::NotFound => (target.to_path_buf(), 0o666),
             Err(error) => return Err(error),
         };
-        let (file, temporary) = create(&target)?;
+        let (file, temporary) = create(&target, mode)?;
         // From here on whatever fails removes the file again.
         let replacement = Replacement {
             _unfinished: Unfinished::new(&temporary),
@@ -87,20 +88,21 @@ fn folder(path: &Path) -> &Path {
     }
 }
 
-/// A new file beside the target, with a name that nobody has.
-fn create(target: &Path) -> io::Result<(File, PathBuf)> {
+/// A new file beside the target, with a name that nobody has, which nobody may read who may not read the target.
+fn create(target: &Path, mode: u32) -> io::Result<(File, PathBuf)> {
     let name = target.file_name().ok_or_else(|| other("it has no name"))?;
     for attempt in 0..TRIES {
         let mut temporary = OsString::from(".");
         temporary.push(name);
         temporary.push(format!(".{}-{attempt}.tmp", process::id()));
         let path = folder(target).join(temporary);
-        match OpenOptions::new()
+        let mut options = OpenOptions::new();
+        options
             .read(true)
             .write(true)
             .create_new(true)
-            .open(&path)
-        {
+            .mode(mode & 0o777);
+        match options.open(&path) {
             Ok(file) => return Ok((file, path)),
             Err(error) if error.kind() == io::ErrorKind::AlreadyExists => continue,
             Err(error) => return Err(error),

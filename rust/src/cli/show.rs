@@ -14,6 +14,26 @@ pub(crate) fn grouped(number: u64) -> String {
     shown
 }
 
+/// A file's own text as it is shown: what would steer a terminal is shown as a replacement character.
+pub(crate) fn plain(text: &str) -> String {
+    let shown = |c: char| {
+        if c.is_control() {
+            char::REPLACEMENT_CHARACTER
+        } else {
+            c
+        }
+    };
+    text.chars().map(shown).collect()
+}
+
+/// The same, or that there is none.
+pub(crate) fn plain_or_none(text: &str) -> String {
+    match text {
+        "" => String::from("(none)"),
+        text => plain(text),
+    }
+}
+
 /// A count and what is counted: `1 VLR`, `2 VLRs`.
 pub(crate) fn counted(number: u64, what: &str) -> String {
     match number {
@@ -27,9 +47,14 @@ mod tests {
     use super::*;
 
     #[test]
-    fn thousands() {
+    fn numbers_and_texts() {
         let shown = [0, 12, 123, 1_234, 123_456, 1_234_567].map(grouped);
         assert_eq!(shown, ["0", "12", "123", "1,234", "123,456", "1,234,567"]);
+        assert_eq!(plain("a\x1b[2J\nb"), "a\u{fffd}[2J\u{fffd}b");
+        assert_eq!(
+            (plain_or_none(""), plain_or_none("x")),
+            ("(none)".into(), "x".into())
+        );
         assert_eq!(grouped(u64::MAX), "18,446,744,073,709,551,615");
         assert_eq!(
             (counted(1, "VLR"), counted(0, "VLR")),
