@@ -1,0 +1,29 @@
+use inscjarol::File;
+use std::{env, error::Error, fs};
+
+/// The lowest and the highest point of a file, what is withheld left out, and whether its points can be made old.
+fn main() -> Result<(), Box<dyn Error>> {
+    let path = env::args_os().nth(1).ok_or("which file?")?;
+    let bytes = fs::read(path)?;
+
+    // Refused with a sentence where the bytes are no whole LAS file.
+    let file = File::check(&bytes)?;
+    let header = file.header();
+    println!("LAS {}, {} points", header.version, file.points().len());
+
+    let heights = || {
+        file.points()
+            .filter(|p| !p.flags.is_withheld())
+            .map(|p| p.z)
+    };
+    if let (Some(low), Some(high)) = (heights().min(), heights().max()) {
+        println!("from {:.3} to {:.3}", header.z(low), header.z(high));
+    }
+
+    // For clients with older software: every field the same, or the first that cannot be.
+    match file.run().to_old() {
+        Ok(old) => println!("{} bytes in the old format", old.len()),
+        Err(refusal) => println!("not in the old format: {refusal}"),
+    }
+    Ok(())
+}

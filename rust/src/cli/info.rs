@@ -1,0 +1,292 @@
+//! `inscjarol info`.
+
+use super::{
+    args::Words,
+    input,
+    json::{self, Object},
+    known,
+    output::Output,
+    show::{counted, grouped, plain, plain_or_none},
+    Command, Failure, Status,
+};
+use inscjarol::{File, Header, PartKind, Vlr};
+
+pub(crate) const COMMAND: Command = Command {
+    name: "info",
+    operands: "FILE..",
+    count: (1, usize::MAX),
+    summary: "show the header, the VLRs and the EVLRs in readable form",
+    options: &[],
+    help: "\
+Shows what the header says: version, software, date, point format, counts, scale, offset and bounds. Counts by return
+and bounds are the header's word, not worked out from the points. Then come the VLRs and EVLRs, each with its user id,
+record id, description, length and first byte, and what it is where that is known; and the gaps, which are bytes that
+belong to no part.
+
+Examples:
+  inscjarol info survey.las
+  inscjarol info --json *.las",
+    run,
+};
+
+fn run(words: &Words, out: &mut Output) -> Result<Status, Failure> {
+    input::each(&words.files, out, |name, file, out| {
+        match out.json {
+            true => out.line(&for_programs(name, file))?,
+            false => for_people(name, file, out)?,
+        }
+        Ok(Status::Done)
+    })
+}
+
+/// A VLR or EVLR and where it is.
+struct Placed<'a> {
+    start: u64,
+    vlr: Vlr<'a>,
+}
+
+/// The records of a kind with their places.
+fn placed<'a>(file: &File<'a>, kind: PartKind) -> Vec<Placed<'a>> {
+    let places = file
+        .parts()
+        .filter(|part| part.kind == kind)
+        .map(|part| part.start);
+    let records = match kind {
+        PartKind::Evlr => file.evlrs(),
+        _ => file.vlrs(),
+    };
+    places
+        .zip(records)
+        .map(|(start, vlr)| Placed { start, vlr })
+        .collect()
+}
+
+/// What a point record of the file has, in words.
+fn format_words(header: &Header) -> String {
+    let format = header.format().unwrap_or_default();
+    let mut has = vec![match format.is_extended {
+        true => "extended flags",
+        false => "old flags",
+    }];
+    let fields = [
+        (format.has_gps_time, "GPS time"),
+        (format.has_color, "colour"),
+        (format.has_nir, "near infrared"),
+        (format.has_waveform, "waveform"),
+    ];
+    has.extend(
+        fields
+            .iter()
+            .filter(|(has, _)| *has)
+            .map(|(_, words)| *words),
+    );
+    format!(
+        "{}: {}; {} a record, {} of them extra",
+        header.point_data_record_format,
+        has.join(", "),
+        counted(u64::from(header.point_data_record_length), "byte"),
+        format.extra_bytes
+    )
+}
+
+fn for_people(name: &str, file: &File<'_>, out: &mut Output) -> Result<(), Failure> {
+    let header = file.header();
+    let mut say = |what: &str, words: String| out.line(&format!("  {what:<22}{words}"));
+
+    let padding = file.padding().len() as u64;
+    let created = known::date(header.file_creation_year, header.file_creation_day_of_year);
+    let by_return: Vec<String> = (1..)
+        .zip(header.points_by_return())
+        .filter(|(_, count)| *count > 0)
+        .map(|(number, count): (u8, u64)| format!("{number}: {}", grouped(count)))
+        .collect();
+
+    say("file", name.to_string())?;
+    say("bytes", grouped(file.bytes().len() as u64))?;
+    say("LAS version", header.version.to_string())?;
+    say("file source id", header.file_source_id.to_string())?;
+    say(
+        "global encoding",
+        format!(
+            "{} ({})",
+            header.global_encoding,
+            known::global_encoding(header.global_encoding).join(", ")
+        ),
+    )?;
+    say(
+        "project id",
+        known::guid(&header.guid).unwrap_or_else(|| String::from("(none)")),
+    )?;
+    say("system", plain_or_none(&header.system()))?;
+    say("software", plain_or_none(&header.software()))?;
+    say(
+        "created",
+        created.unwrap_or_else(|| {
+            format!(
+                "day {} of {}",
+                header.file_creation_day_of_year, header.file_creation_year
+            )
+        }),
+    )?;
+    say(
+        "header",
+        format!(
+            "{}, {padding} of them padding",
+            counted(u64::from(header.header_size), "byte")
+        ),
+    )?;
+    say("point format", format_words(header))?;
+    say(
+        "points",
+        format!(
+            "{} from byte {}",
+            grouped(file.point_count()),
+            header.offset_to_point_data
+        ),
+    )?;
+    say("points by return", plain_or_none(&by_return.join(", ")))?;
+    say(
+        "scale x y z",
+        format!(
+            "{} {} {}",
+            header.x_scale_factor, header.y_scale_factor, header.z_scale_factor
+        ),
+    )?;
+    say(
+        "offset x y z",
+        format!(
+            "{} {} {}",
+            header.x_offset, header.y_offset, header.z_offset
+        ),
+    )?;
+    say("x from, to", format!("{} {}", header.min_x, header.max_x))?;
+    say("y from, to", format!("{} {}", header.min_y, header.max_y))?;
+    say("z from, to", format!("{} {}", header.min_z, header.max_z))?;
+    if let Some(start) = header
+        .start_of_waveform_data_packet_record
+        .filter(|start| *start > 0)
+    {
+        say("waveform data", format!("from byte {start}"))?;
+    }
+
+    for (kind, heading) in [(PartKind::Vlr, "VLRs"), (PartKind::Evlr, "EVLRs")] {
+        let records = placed(file, kind);
+        out.line(&format!("  {heading:<22}{}", grouped(records.len() as u64)))?;
+        for (number, Placed { start, vlr }) in (1_u64..).zip(&records) {
+            let description = vlr.about();
+            let mut line = format!(
+                "  {number:>4}  {} {}, {} of data, from byte {start}",
+                plain_or_none(&vlr.user()),
+                vlr.record_id,
+                counted(vlr.data.len() as u64, "byte"),
+            );
+            if !description.is_empty() {
+                line.push_str(&format!(", \"{}\"", plain(&description)));
+            }
+            out.line(&line)?;
+            if let Some(meaning) = known::meaning(vlr) {
+                out.line(&format!("        {}", plain(&meaning)))?;
+            }
+        }
+    }
+    for gap in file.parts().filter(|part| part.kind == PartKind::Gap) {
+        out.line(&format!(
+            "  {:<22}{} from byte {}",
+            "gap",
+            counted(gap.len, "byte"),
+            gap.start
+        ))?;
+    }
+    Ok(())
+}
+
+/// A list of numbers as JSON.
+fn numbers(numbers: &[u64]) -> Vec<String> {
+    numbers.iter().map(u64::to_string).collect()
+}
+
+/// A list of floats as JSON.
+fn floats(floats: [f64; 3]) -> Vec<String> {
+    floats.into_iter().map(json::float).collect()
+}
+
+/// VLRs or EVLRs as JSON.
+fn records(records: &[Placed<'_>]) -> Vec<String> {
+    let record = |Placed { start, vlr }: &Placed<'_>| {
+        let mut object = Object::new();
+        object
+            .text("user_id", &vlr.user())
+            .number("record_id", vlr.record_id)
+            .text("description", &vlr.about())
+            .number("start", *start)
+            .number("data_length", vlr.data.len() as u64);
+        if let Some(meaning) = known::meaning(vlr) {
+            object.text("meaning", &meaning);
+        }
+        object.finish()
+    };
+    records.iter().map(record).collect()
+}
+
+fn for_programs(name: &str, file: &File<'_>) -> String {
+    let header = file.header();
+    let gaps = file
+        .parts()
+        .filter(|part| part.kind == PartKind::Gap)
+        .map(|gap| {
+            let mut object = Object::new();
+            object.number("start", gap.start).number("length", gap.len);
+            object.finish()
+        });
+    let mut object = Object::new();
+    object
+        .text("file", name)
+        .bool("accepted", true)
+        .number("bytes", file.bytes().len() as u64)
+        .text("version", &header.version.to_string())
+        .number("file_source_id", header.file_source_id)
+        .number("global_encoding", header.global_encoding);
+    match known::guid(&header.guid) {
+        Some(guid) => object.text("project_id", &guid),
+        None => object.raw("project_id", "null"),
+    };
+    object
+        .text("system_identifier", &header.system())
+        .text("generating_software", &header.software())
+        .number("creation_year", header.file_creation_year)
+        .number("creation_day_of_year", header.file_creation_day_of_year)
+        .number("header_size", header.header_size)
+        .number("padding", file.padding().len() as u64)
+        .number("point_offset", header.offset_to_point_data)
+        .number("format", header.point_data_record_format)
+        .number("record_length", header.point_data_record_length)
+        .number(
+            "extra_bytes",
+            header.format().unwrap_or_default().extra_bytes,
+        )
+        .number("points", file.point_count())
+        .list("points_by_return", numbers(&header.points_by_return()))
+        .list(
+            "scale",
+            floats([
+                header.x_scale_factor,
+                header.y_scale_factor,
+                header.z_scale_factor,
+            ]),
+        )
+        .list(
+            "offset",
+            floats([header.x_offset, header.y_offset, header.z_offset]),
+        )
+        .list("min", floats([header.min_x, header.min_y, header.min_z]))
+        .list("max", floats([header.max_x, header.max_y, header.max_z]));
+    match header.start_of_waveform_data_packet_record {
+        Some(start) => object.number("waveform_start", start),
+        None => object.raw("waveform_start", "null"),
+    };
+    object
+        .list("vlrs", records(&placed(file, PartKind::Vlr)))
+        .list("evlrs", records(&placed(file, PartKind::Evlr)))
+        .list("gaps", gaps);
+    object.finish()
+}

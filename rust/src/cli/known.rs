@@ -1,0 +1,244 @@
+//! What the standard says of numbers and records in a header.
+
+use super::extra;
+use inscjarol::{text, Vlr};
+
+/// The bits of global encoding that the standard names, in words.
+pub(crate) fn global_encoding(bits: u16) -> Vec<&'static str> {
+    let mut words = vec![match bits & 1 {
+        0 => "GPS time of week",
+        _ => "adjusted standard GPS time",
+    }];
+    let named = [
+        (1, "waveforms inside the file"),
+        (2, "waveforms in a file of their own"),
+        (3, "synthetic return numbers"),
+        (4, "coordinate system in WKT"),
+    ];
+    words.extend(
+        named
+            .iter()
+            .filter(|(bit, _)| bits >> bit & 1 == 1)
+            .map(|(_, words)| *words),
+    );
+    words
+}
+
+/// A project id as it is usually written; none where all of it is zero.
+pub(crate) fn guid(bytes: &[u8; 16]) -> Option<String> {
+    if *bytes == [0; 16] {
+        return None;
+    }
+    let [a, b, c, d, e, f, g, h, rest @ ..] = *bytes;
+    let first = u32::from_le_bytes([a, b, c, d]);
+    let (second, third) = (u16::from_le_bytes([e, f]), u16::from_le_bytes([g, h]));
+    let rest: Vec<String> = rest.iter().map(|byte| format!("{byte:02X}")).collect();
+    let (fourth, fifth) = rest.split_at(2);
+    Some(format!(
+        "{first:08X}-{second:04X}-{third:04X}-{}-{}",
+        fourth.concat(),
+        fifth.concat()
+    ))
+}
+
+/// The date of a day of a year; none where there is no such day.
+pub(crate) fn date(year: u16, day_of_year: u16) -> Option<String> {
+    let leap = year % 4 == 0 && (year % 100 != 0 || year % 400 == 0);
+    let months = [
+        31,
+        if leap { 29 } else { 28 },
+        31,
+        30,
+        31,
+        30,
+        31,
+        31,
+        30,
+        31,
+        30,
+        31,
+    ];
+    let mut day = day_of_year;
+    if year == 0 || day == 0 {
+        return None;
+    }
+    for (month, length) in (1_u8..).zip(months) {
+        if day <= length {
+            return Some(format!("{year:04}-{month:02}-{day:02}"));
+        }
+        day = day.saturating_sub(length);
+    }
+    None
+}
+
+/// What a record is, where the standard or common use says so.
+pub(crate) fn meaning(vlr: &Vlr<'_>) -> Option<String> {
+    let words = match (vlr.user().as_ref(), vlr.record_id) {
+        ("LASF_Projection", 2111) => "math transform in WKT",
+        ("LASF_Projection", 2112) => return Some(wkt(vlr.data)),
+        ("LASF_Projection", 34735) => return Some(geo_keys(vlr.data)),
+        ("LASF_Projection", 34736) => "floats of the GeoTIFF keys",
+        ("LASF_Projection", 34737) => "texts of the GeoTIFF keys",
+        ("LASF_Spec", 0) => "names of the classes",
+        ("LASF_Spec", 3) => return Some(described(vlr.data)),
+        ("LASF_Spec", 4) => return Some(extra_bytes(vlr)),
+        ("LASF_Spec", 7) => "superseded",
+        ("LASF_Spec", 100..=354) => "description of a wave packet",
+        ("LASF_Spec", 65535) => "waveform data",
+        ("laszip encoded", 22204) => "how points are compressed (LAZ)",
+        ("copc", 1) => "cloud-optimised order (COPC)",
+        ("copc", 1000) => "places of the cloud-optimised order (COPC)",
+        _ => return None,
+    };
+    Some(words.to_string())
+}
+
+/// The most characters of a text that are shown.
+const SHOWN: usize = 60;
+
+fn shortened(words: &str) -> String {
+    match words.char_indices().nth(SHOWN) {
+        Some((end, _)) => format!("{}...", words.get(..end).unwrap_or_default()),
+        None => words.to_string(),
+    }
+}
+
+/// A coordinate system in WKT: its name is the first text in quotes.
+fn wkt(data: &[u8]) -> String {
+    let wkt = text(data);
+    match wkt.split('"').nth(1) {
+        Some(name) => format!("coordinate system in WKT: {}", shortened(name)),
+        None => String::from("coordinate system in WKT"),
+    }
+}
+
+/// A text area: its first line.
+fn described(data: &[u8]) -> String {
+    let words = text(data);
+    match words.lines().next() {
+        Some(line) if !line.is_empty() => format!("text: {}", shortened(line)),
+        _ => String::from("text"),
+    }
+}
+
+/// GeoTIFF keys: how many, and the EPSG codes among them. Each has four numbers, and four more stand before the first.
+fn geo_keys(data: &[u8]) -> String {
+    let numbers: Vec<u16> = data
+        .chunks_exact(2)
+        .map(|pair| pair.iter().rev().fold(0, |n, &b| n << 8 | u16::from(b)))
+        .collect();
+    let mut entries = numbers.chunks_exact(4);
+    let count = match entries.next() {
+        Some(&[_, _, _, count]) => count,
+        _ => return String::from("GeoTIFF keys"),
+    };
+    let mut words = format!("GeoTIFF keys: {count}");
+    for entry in entries.take(usize::from(count)) {
+        let what = match *entry {
+            [3072, 0, _, code] => ("projected", code),
+            [2048, 0, _, code] => ("geographic", code),
+            [4096, 0, _, code] => ("vertical", code),
+            _ => continue,
+        };
+        words.push_str(&format!(", {} EPSG:{}", what.0, what.1));
+    }
+    words
+}
+
+/// Extra bytes: their names and kinds.
+fn extra_bytes(vlr: &Vlr<'_>) -> String {
+    let fields: Vec<String> = extra::described_by(vlr.data)
+        .iter()
+        .map(|field| {
+            let mut words = format!("{} ({}", field.name, field.kind.words());
+            if let Some(scale) = field.scale {
+                words.push_str(&format!(", steps of {scale}"));
+            }
+            if let Some(offset) = field.offset {
+                words.push_str(&format!(", from {offset}"));
+            }
+            words.push(')');
+            if !field.about.is_empty() {
+                words.push_str(&format!(" \"{}\"", field.about));
+            }
+            words
+        })
+        .collect();
+    match fields.is_empty() {
+        true => String::from("what the extra bytes are"),
+        false => format!("extra bytes: {}", fields.join(", ")),
+    }
+}
+
+#[cfg(test)]
+mod tests {
+    use super::*;
+
+    #[test]
+    fn dates() {
+        assert_eq!(date(2026, 1), Some("2026-01-01".into()));
+        assert_eq!(date(2026, 59), Some("2026-02-28".into()));
+        assert_eq!(date(2026, 60), Some("2026-03-01".into()));
+        assert_eq!(date(2024, 60), Some("2024-02-29".into()));
+        assert_eq!(date(2024, 366), Some("2024-12-31".into()));
+        assert_eq!(date(2026, 366), None);
+        assert_eq!((date(0, 1), date(2026, 0)), (None, None));
+    }
+
+    #[test]
+    fn project_ids() {
+        assert_eq!(guid(&[0; 16]), None);
+        let bytes = [
+            0x33, 0x22, 0x11, 0, 0x55, 0x44, 0x77, 0x66, 0x88, 0x99, 0xaa, 0xbb, 0xcc, 0xdd, 0xee,
+            0xff,
+        ];
+        assert_eq!(
+            guid(&bytes),
+            Some("00112233-4455-6677-8899-AABBCCDDEEFF".into())
+        );
+    }
+
+    #[test]
+    fn bits_in_words() {
+        assert_eq!(global_encoding(0), ["GPS time of week"]);
+        assert_eq!(
+            global_encoding(0x11),
+            ["adjusted standard GPS time", "coordinate system in WKT"]
+        );
+    }
+
+    #[test]
+    fn records_in_words() {
+        let said = |user: &str, id: u16, data: &[u8]| meaning(&Vlr::new(false, user, id, "", data));
+        let keys: Vec<u8> = [1_u16, 1, 0, 2, 1024, 0, 1, 1, 3072, 0, 1, 25832]
+            .iter()
+            .flat_map(|n| n.to_le_bytes())
+            .collect();
+        assert_eq!(
+            said("LASF_Projection", 34735, &keys),
+            Some("GeoTIFF keys: 2, projected EPSG:25832".into())
+        );
+        assert_eq!(
+            said("LASF_Projection", 34735, b"abc"),
+            Some("GeoTIFF keys".into())
+        );
+        assert_eq!(
+            said(
+                "LASF_Projection",
+                2112,
+                b"PROJCS[\"ETRS89 / UTM zone 32N\",GEOGCS[..."
+            ),
+            Some("coordinate system in WKT: ETRS89 / UTM zone 32N".into())
+        );
+        assert_eq!(
+            said("LASF_Spec", 4, b""),
+            Some("what the extra bytes are".into())
+        );
+        assert_eq!(
+            said("LASF_Spec", 3, b"first\nsecond"),
+            Some("text: first".into())
+        );
+        assert_eq!(said("somebody", 4, b""), None);
+        assert_eq!(shortened(&"é".repeat(61)), format!("{}...", "é".repeat(60)));
+    }
+}

@@ -1,0 +1,248 @@
+//! The commands, their help, and how what comes of them becomes an exit status.
+
+mod args;
+mod check;
+mod decimal;
+mod extra;
+mod fields;
+mod info;
+mod input;
+mod json;
+mod known;
+mod os;
+mod output;
+mod parts;
+mod points;
+mod progress;
+mod replace;
+mod rewrite;
+mod show;
+
+use args::{Opt, Words};
+use output::Output;
+use std::{ffi::OsString, fmt::Write as _, io, process::ExitCode};
+
+/// A command: a new one is a file with a constant of this type, and a line in the table below.
+pub(crate) struct Command {
+    /// What it is called by.
+    name: &'static str,
+    /// What it takes, as it stands in its usage line.
+    operands: &'static str,
+    /// The fewest and the most of them.
+    count: (usize, usize),
+    /// What it does, in a line.
+    summary: &'static str,
+    /// Its options, besides `--json` and `--help`.
+    options: &'static [Opt],
+    /// The rest of its help.
+    help: &'static str,
+    /// Itself.
+    run: fn(&Words, &mut Output) -> Result<Status, Failure>,
+}
+
+/// Every command, in the order in which help tells them.
+const COMMANDS: &[Command] = &[
+    check::COMMAND,
+    parts::COMMAND,
+    info::COMMAND,
+    points::COMMAND,
+    rewrite::COMMAND,
+];
+
+/// The options of every command.
+const COMMON: &[Opt] = &[
+    Opt {
+        name: "json",
+        value: None,
+        help: "answer in JSON, for programs",
+    },
+    Opt {
+        name: "help",
+        value: None,
+        help: "show this help",
+    },
+];
+
+/// How a command ended; the worst of several counts.
+#[derive(Clone, Copy, Debug, PartialEq, Eq, PartialOrd, Ord)]
+pub(crate) enum Status {
+    /// All is well: 0.
+    Done,
+    /// A file was refused: 1.
+    Refused,
+    /// Wrong use, or a file could not be read or written: 2.
+    Failed,
+}
+
+impl Status {
+    fn code(self) -> u8 {
+        match self {
+            Status::Done => 0,
+            Status::Refused => 1,
+            Status::Failed => 2,
+        }
+    }
+}
+
+/// Why a command could not go on.
+#[derive(Debug)]
+pub(crate) enum Failure {
+    /// Nobody reads what it writes any more; that is no error.
+    Closed,
+    /// It was called in a wrong way.
+    Usage(String),
+    /// Something could not be read or written.
+    Io(String),
+}
+
+/// What is written to is the standard output.
+impl From<io::Error> for Failure {
+    fn from(error: io::Error) -> Failure {
+        match error.kind() {
+            io::ErrorKind::BrokenPipe => Failure::Closed,
+            _ => Failure::Io(format!("standard output: {error}")),
+        }
+    }
+}
+
+/// Runs the tool with these words.
+pub(crate) fn main(words: Vec<OsString>) -> ExitCode {
+    os::say_when_a_map_fails();
+    let mut out = Output::new();
+    let ended = run(words, &mut out).and_then(|status| {
+        out.flush()?;
+        Ok(status)
+    });
+    let status = match ended {
+        Ok(status) => status,
+        Err(Failure::Closed) => Status::Done,
+        Err(Failure::Usage(words) | Failure::Io(words)) => {
+            out.tell(&words);
+            Status::Failed
+        }
+    };
+    ExitCode::from(status.code())
+}
+
+/// The command with this name.
+fn command(name: &str) -> Option<&'static Command> {
+    COMMANDS.iter().find(|command| command.name == name)
+}
+
+fn run(words: Vec<OsString>, out: &mut Output) -> Result<Status, Failure> {
+    let mut words = words.into_iter();
+    let first = match words.next() {
+        Some(first) => first,
+        None => {
+            return Err(Failure::Usage(format!(
+                "no command was given\n\n{}",
+                overview()
+            )))
+        }
+    };
+    let name = first.to_string_lossy();
+    match name.as_ref() {
+        "help" | "--help" | "-h" => help(words.next(), out),
+        "version" | "--version" | "-V" => {
+            out.line(concat!("inscjarol ", env!("CARGO_PKG_VERSION")))?;
+            Ok(Status::Done)
+        }
+        _ => {
+            let command = command(&name).ok_or_else(|| unknown(&name))?;
+            let words = Words::of(command, words)?;
+            if words.has("help") {
+                out.line(&taught(command))?;
+                return Ok(Status::Done);
+            }
+            words.counted(command)?;
+            out.json = words.has("json");
+            (command.run)(&words, out)
+        }
+    }
+}
+
+/// `inscjarol help`, or `inscjarol help COMMAND`.
+fn help(name: Option<OsString>, out: &mut Output) -> Result<Status, Failure> {
+    match name {
+        None => out.line(overview().trim_end())?,
+        Some(name) => {
+            let name = name.to_string_lossy();
+            let command = command(&name).ok_or_else(|| unknown(&name))?;
+            out.line(&taught(command))?;
+        }
+    }
+    Ok(Status::Done)
+}
+
+fn unknown(name: &str) -> Failure {
+    let names: Vec<&str> = COMMANDS.iter().map(|command| command.name).collect();
+    Failure::Usage(format!(
+        "there is no command '{name}'; there are {} and help",
+        names.join(", ")
+    ))
+}
+
+/// What the tool is and which commands it has.
+fn overview() -> String {
+    let mut text = String::from(
+        "inscjarol looks at LAS files (lidar point clouds), by a library that is machine-proved.\n\n\
+         Usage: inscjarol COMMAND [OPTIONS] FILE..\n\n",
+    );
+    for command in COMMANDS {
+        let _ = writeln!(text, "  {:<9}{}", command.name, command.summary);
+    }
+    text.push_str(
+        "  help     teach a command: inscjarol help points\n\n\
+         Files may be of any size; - is the standard input. Every command takes --json.\n\
+         Exit status: 0 all is well, 1 a file was refused, 2 wrong use or a file that cannot be read or written.\n\n\
+         To begin with:\n  inscjarol check *.las\n  inscjarol info FILE\n  inscjarol points FILE | head\n",
+    );
+    text
+}
+
+/// All that there is to know of a command.
+fn taught(command: &Command) -> String {
+    let mut text = format!(
+        "inscjarol {}: {}\n\nUsage: inscjarol {} [OPTIONS] {}\n\n{}\n\nOptions:\n",
+        command.name,
+        command.summary,
+        command.name,
+        command.operands,
+        command.help.trim()
+    );
+    for option in command.options.iter().chain(COMMON) {
+        let name = match option.value {
+            Some(value) => format!("--{} {value}", option.name),
+            None => format!("--{}", option.name),
+        };
+        let _ = writeln!(text, "  {name:<18}{}", option.help);
+    }
+    text.trim_end().to_string()
+}
+
+#[cfg(test)]
+mod tests {
+    use super::*;
+
+    #[test]
+    fn the_worst_status_counts() {
+        assert_eq!(
+            Status::Done.max(Status::Refused).max(Status::Done).code(),
+            1
+        );
+        assert_eq!(Status::Refused.max(Status::Failed).code(), 2);
+    }
+
+    #[test]
+    fn every_command_is_taught() {
+        for command in COMMANDS {
+            assert!(overview().contains(command.summary));
+            let text = taught(command);
+            assert!(text.contains("Usage: inscjarol") && text.contains("--json"));
+            assert!(command.count.0 <= command.count.1);
+            let longest = text.lines().map(str::len).max();
+            assert!(longest <= Some(120), "{}: {longest:?}", command.name);
+        }
+        assert!(command("check").is_some() && command("chek").is_none());
+    }
+}

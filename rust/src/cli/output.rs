@@ -1,0 +1,90 @@
+//! Where a command writes: the standard output, locked and buffered, and sentences on the standard error.
+
+use super::{json::Object, Failure, Status};
+use inscjarol::Refusal;
+use std::io::{self, BufWriter, StdoutLock, Write};
+
+/// The standard output and how it is to be written.
+pub(crate) struct Output {
+    to: BufWriter<StdoutLock<'static>>,
+    /// Whether it is for programs.
+    pub(crate) json: bool,
+}
+
+impl Output {
+    pub(crate) fn new() -> Output {
+        Output {
+            to: BufWriter::with_capacity(1 << 16, io::stdout().lock()),
+            json: false,
+        }
+    }
+
+    /// Writes a line.
+    pub(crate) fn line(&mut self, text: &str) -> Result<(), Failure> {
+        self.bytes(text.as_bytes())?;
+        self.bytes(b"\n")
+    }
+
+    /// Writes bytes.
+    pub(crate) fn bytes(&mut self, bytes: &[u8]) -> Result<(), Failure> {
+        Ok(self.to.write_all(bytes)?)
+    }
+
+    /// Lets go of all that was written.
+    pub(crate) fn flush(&mut self) -> Result<(), Failure> {
+        Ok(self.to.flush()?)
+    }
+
+    /// Says a sentence on the standard error, after all that was written; where it cannot be said, nobody listens.
+    pub(crate) fn tell(&mut self, words: &str) {
+        let _ = self.to.flush();
+        let _ = writeln!(io::stderr(), "inscjarol: {words}");
+    }
+
+    /// Says that a file could not be read or written.
+    pub(crate) fn failed(&mut self, name: &str, words: &str) -> Result<Status, Failure> {
+        if self.json {
+            let mut object = Object::new();
+            object.text("file", name).text("error", words);
+            self.line(&object.finish())?;
+        }
+        self.tell(&format!("{name}: {words}"));
+        Ok(Status::Failed)
+    }
+
+    /// Says that a file was refused: in JSON on the standard output, else in words on the standard error.
+    pub(crate) fn refused(&mut self, name: &str, refusal: &Refusal) -> Result<Status, Failure> {
+        if self.json {
+            let mut object = Object::new();
+            object.text("file", name).bool("accepted", false);
+            object.object("refusal", refusal_object(refusal));
+            self.line(&object.finish())?;
+        } else {
+            self.tell(&format!("{name}: {}", refused(refusal)));
+        }
+        Ok(Status::Refused)
+    }
+}
+
+/// A refusal as it is told: its numbers and its words.
+pub(crate) fn refused(refusal: &Refusal) -> String {
+    format!(
+        "refused {} {} {} ({}): {refusal}",
+        refusal.number(),
+        refusal.value(),
+        refusal.record(),
+        refusal.name()
+    )
+}
+
+/// A refusal for programs.
+pub(crate) fn refusal_object(refusal: &Refusal) -> Object {
+    let mut object = Object::new();
+    object
+        .number("number", refusal.number())
+        .text("name", refusal.name())
+        .number("value", refusal.value())
+        .number("record", refusal.record())
+        .text("words", &refusal.to_string());
+    object
+}

@@ -1,0 +1,204 @@
+//! Runs of point records, converted strictly to their old formats, or upgraded.
+
+use crate::{
+    refusal::{Kind, Refusal},
+    sys,
+};
+
+/// Point records one after the other, all of one format.
+///
+/// The pairs of formats are, down: 6 to 1, 7 to 3, 8 to 3, 9 to 4, 10 to 5; and up: 1 to 6, 3 to 7, 4 to 9, 5 to 10. Extra
+/// bytes are kept.
+#[derive(Clone, Copy, Debug, PartialEq, Eq, Hash)]
+pub struct Run<'a> {
+    /// The format's code, as in a header.
+    pub format: u8,
+    /// The extra bytes of a record.
+    pub extra_bytes: u16,
+    /// How many records there are.
+    pub count: u64,
+    /// Their bytes; what lies past the last record is not looked at.
+    pub records: &'a [u8],
+}
+
+impl Run<'_> {
+    /// Converts the run strictly to the old format of its pair, at the front of `dst`, and answers how many bytes that is:
+    /// an old reader finds in every record the same value in every field, the scan angle to the nearest whole degree.
+    ///
+    /// Where that cannot be, the first record and its first field that does not fit are named (15 to 21), and `dst` is left
+    /// as it was. It is also refused with 26 where the format has no pair, with 8 where a record would be overlong, with 1
+    /// where the records are not all there, and with 22 where `dst` is too small.
+    pub fn to_old_into(&self, dst: &mut [u8]) -> Result<usize, Refusal> {
+        sys::convert_to_old(self.records, self.kind(), dst)
+    }
+
+    /// Upgrades the run to the new format of its pair, at the front of `dst`, and answers how many bytes that is. No record
+    /// is refused; else it is as [`Run::to_old_into`].
+    pub fn to_new_into(&self, dst: &mut [u8]) -> Result<usize, Refusal> {
+        sys::convert_to_new(self.records, self.kind(), dst)
+    }
+
+    /// The run in the old format of its pair, as [`Run::to_old_into`] converts it.
+    ///
+    /// ```
+    /// use inscjarol::{Flags, Format, Point, Run, ScanAngle};
+    ///
+    /// let point = Point {
+    ///     flags: Flags::ThreeByte(0x11, 0, 2),
+    ///     scan_angle: ScanAngle::Scaled(250),
+    ///     ..Point::default()
+    /// };
+    /// let records = point.to_vec(Format::new(6)?)?;
+    /// let run = Run { format: 6, extra_bytes: 0, count: 1, records: &records };
+    ///
+    /// let old = run.to_old()?;
+    /// let shown = Point::read(&old, Format::new(1)?)?;
+    /// assert_eq!(shown.flags.class(), 2);
+    /// assert_eq!(shown.scan_angle, ScanAngle::Rank(2));
+    /// # Ok::<(), inscjarol::Refusal>(())
+    /// ```
+    pub fn to_old(&self) -> Result<Vec<u8>, Refusal> {
+        converted(|dst| self.to_old_into(dst))
+    }
+
+    /// The run in the new format of its pair, as [`Run::to_new_into`] converts it.
+    pub fn to_new(&self) -> Result<Vec<u8>, Refusal> {
+        converted(|dst| self.to_new_into(dst))
+    }
+
+    /// Format, extra bytes and count, as the library takes them.
+    fn kind(&self) -> (u8, u16, u64) {
+        (self.format, self.extra_bytes, self.count)
+    }
+}
+
+/// What a call writes into as many bytes as it wants, which it tells when it has none.
+fn converted(call: impl Fn(&mut [u8]) -> Result<usize, Refusal>) -> Result<Vec<u8>, Refusal> {
+    match call(&mut []) {
+        Err(refusal) if refusal.kind() == Kind::NoRoom && refusal.value() != 0 => {
+            let mut dst = vec![0; sys::in_memory(refusal.value())];
+            call(&mut dst)?;
+            Ok(dst)
+        }
+        answer => answer.map(|_| Vec::new()),
+    }
+}
+
+#[cfg(test)]
+mod tests {
+    use crate::{
+        Flags::{self, ThreeByte, TwoByte},
+        Format, Point, Run, ScanAngle,
+    };
+
+    /// One record of a format.
+    fn record(format: u8, flags: Flags, scan_angle: ScanAngle, nir: Option<u16>) -> Vec<u8> {
+        let point = Point {
+            flags,
+            scan_angle,
+            nir,
+            extra_bytes: b"z",
+            ..Point::default()
+        };
+        point
+            .to_vec(Format::new(format).unwrap().with_extra_bytes(1))
+            .unwrap()
+    }
+
+    fn run(format: u8, records: &[u8], count: u64) -> Run<'_> {
+        Run {
+            format,
+            extra_bytes: 1,
+            count,
+            records,
+        }
+    }
+
+    /// The old flags of three bytes of flags at angle 0, or number and value of the refusal.
+    fn strict(flags: Flags) -> Result<[u8; 2], (u64, u64)> {
+        let records = record(6, flags, ScanAngle::Scaled(0), None);
+        match run(6, &records, 1).to_old() {
+            Ok(old) => Ok([old[14], old[15]]),
+            Err(refusal) => {
+                assert_eq!(refusal.record(), 1);
+                Err((refusal.number(), refusal.value()))
+            }
+        }
+    }
+
+    #[test]
+    fn flags_on_each_side() {
+        assert_eq!(strict(ThreeByte(0x11, 0, 2)), Ok([0x09, 0x02]));
+        assert_eq!(strict(ThreeByte(0x21, 0x48, 2)), Err((19, 2)));
+        assert_eq!(strict(ThreeByte(0x11, 0x08, 12)), Ok([0x09, 0x0c]));
+        assert_eq!(strict(ThreeByte(0x11, 0, 12)), Err((19, 12)));
+        assert_eq!(strict(ThreeByte(0x11, 0, 28)), Err((19, 28)));
+        assert_eq!(strict(ThreeByte(0x88, 0x10, 40)), Err((15, 8)));
+        assert_eq!(strict(ThreeByte(0x81, 0, 2)), Err((16, 8)));
+        assert_eq!(strict(ThreeByte(0x11, 0, 32)), Err((17, 32)));
+        assert_eq!(strict(ThreeByte(0x11, 0x10, 2)), Err((18, 1)));
+    }
+
+    #[test]
+    fn angles_on_each_side() {
+        let converted = |scaled: i16| {
+            let records = record(6, ThreeByte(0x11, 0, 2), ScanAngle::Scaled(scaled), None);
+            let old = run(6, &records, 1).to_old();
+            old.map(|old| old[16] as i8)
+                .map_err(|refusal| (refusal.number(), refusal.value()))
+        };
+        assert_eq!(converted(249), Ok(1));
+        assert_eq!(converted(250), Ok(2));
+        assert_eq!(converted(-250), Ok(-2));
+        assert_eq!(converted(21_249), Ok(127));
+        assert_eq!(converted(21_250), Err((21, 21_250)));
+        assert_eq!(converted(-21_416), Ok(-128));
+        assert_eq!(converted(-21_417), Err((21, 65_536 - 21_417)));
+    }
+
+    #[test]
+    fn up_and_down_again() {
+        let mut records = record(1, TwoByte(0x51, 0x22), ScanAngle::Rank(-90), None);
+        records.extend(record(1, TwoByte(0xc9, 0x0c), ScanAngle::Rank(127), None));
+        let new = run(1, &records, 2).to_new().unwrap();
+        assert_eq!(new.len(), 2 * 31);
+        assert_eq!(new[14..17], [0x21, 0x41, 0x02]);
+        assert_eq!(run(6, &new, 2).to_old(), Ok(records));
+    }
+
+    #[test]
+    fn the_first_record_that_does_not_fit_is_named() {
+        let mut records = record(8, ThreeByte(0x11, 0, 2), ScanAngle::Scaled(0), None);
+        records.extend(record(
+            8,
+            ThreeByte(0x11, 0, 2),
+            ScanAngle::Scaled(0),
+            Some(7),
+        ));
+        let refusal = run(8, &records, 2).to_old().unwrap_err();
+        assert_eq!(
+            (refusal.number(), refusal.value(), refusal.record()),
+            (20, 7, 2)
+        );
+        let mut dst = [0xa5; 100];
+        assert!(run(8, &records, 2).to_old_into(&mut dst).is_err());
+        assert_eq!(dst, [0xa5; 100]);
+    }
+
+    #[test]
+    fn refusals_before_any_record() {
+        let told = |run: Run<'_>| {
+            run.to_old()
+                .map_err(|refusal| (refusal.number(), refusal.value()))
+        };
+        assert_eq!(told(run(0, b"", 1)), Err((26, 0)));
+        assert_eq!(told(run(6, b"", 2)), Err((1, 62)));
+        assert_eq!(told(run(6, b"", u64::MAX)), Err((1, 0)));
+        assert_eq!(told(run(6, b"", 0)), Ok(vec![]));
+        let overlong = Run {
+            extra_bytes: 65_535,
+            ..run(6, b"", 1)
+        };
+        assert_eq!(told(overlong), Err((8, 65_565)));
+    }
+}

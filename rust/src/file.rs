@@ -1,0 +1,342 @@
+//! Whole files.
+
+use crate::{
+    convert::Run,
+    header::Header,
+    point::Point,
+    refusal::{Kind, Refusal},
+    sys::{self, Place},
+    vlr::Vlr,
+};
+use std::{fmt, iter::FusedIterator, vec};
+
+/// An allowance of VLRs and EVLRs that no file of this many bytes can spend: each takes 54 bytes or more.
+pub fn allowance_for(bytes: usize) -> u64 {
+    bytes as u64 / 54
+}
+
+/// What the file check found.
+#[derive(Clone, Copy, Debug, PartialEq, Eq, Hash)]
+pub struct Checked {
+    /// Why the file is no LAS file, if it is none.
+    pub answer: Result<(), Refusal>,
+    /// How many VLRs and EVLRs were found whole, up to the refusal if there is one.
+    pub records: u64,
+}
+
+/// Bytes that were found to be a LAS file.
+#[derive(Clone, Copy, Debug)]
+pub struct File<'a> {
+    bytes: &'a [u8],
+    allowance: u64,
+    records: u64,
+    header: Header,
+}
+
+impl<'a> File<'a> {
+    /// The file that these bytes are, or the first of the rules that they break.
+    ///
+    /// This looks at the header and at the head of each VLR and EVLR, not at the points: it takes as long for a large file
+    /// as for a small one.
+    ///
+    /// ```
+    /// # let header = inscjarol::Header::new(inscjarol::Version { major: 1, minor: 2 });
+    /// # let mut bytes = header.to_vec(&[])?;
+    /// let file = inscjarol::File::check(&bytes)?;
+    /// assert_eq!(file.points().len(), 0);
+    ///
+    /// // The header counts a point, and the file ends before it.
+    /// bytes[107] = 1;
+    /// let refusal = inscjarol::File::check(&bytes).unwrap_err();
+    /// assert_eq!((refusal.number(), refusal.value()), (12, 1));
+    /// # Ok::<(), inscjarol::Refusal>(())
+    /// ```
+    pub fn check(bytes: &'a [u8]) -> Result<File<'a>, Refusal> {
+        File::check_within(bytes, allowance_for(bytes.len()))
+    }
+
+    /// The same with an allowance of VLRs and EVLRs: one more than that is refused with 10, so that the time is bounded.
+    pub fn check_within(bytes: &'a [u8], allowance: u64) -> Result<File<'a>, Refusal> {
+        let Checked { answer, records } = File::judge(bytes, allowance);
+        answer?;
+        Ok(File {
+            bytes,
+            allowance,
+            records,
+            header: Header::read(bytes)?,
+        })
+    }
+
+    /// What the file check finds, with the number of records found whole beside a refusal.
+    pub fn judge(bytes: &[u8], allowance: u64) -> Checked {
+        let (answer, records) = sys::file_check(bytes, allowance);
+        Checked { answer, records }
+    }
+
+    /// The file's bytes.
+    pub fn bytes(&self) -> &'a [u8] {
+        self.bytes
+    }
+
+    /// The header.
+    pub fn header(&self) -> &Header {
+        &self.header
+    }
+
+    /// The header's padding.
+    pub fn padding(&self) -> &'a [u8] {
+        sys::header_padding(self.bytes)
+    }
+
+    /// How many VLRs and EVLRs there are, both kinds together.
+    pub fn records(&self) -> u64 {
+        self.records
+    }
+
+    /// How many points there are: the legacy count if it isn't 0, else the large count.
+    pub fn point_count(&self) -> u64 {
+        sys::header_points(self.bytes).unwrap_or(0)
+    }
+
+    /// The parts of the file in their order: header, VLRs, points, EVLRs, and the gaps between and after them. They cover
+    /// the file, byte after byte.
+    pub fn parts(&self) -> Parts {
+        // Without room the library tells how many entries it wants.
+        let wanted = match sys::file_parts(self.bytes, self.allowance, &mut []) {
+            Err(refusal) if refusal.kind() == Kind::NoRoom => sys::in_memory(refusal.value()),
+            _ => 0,
+        };
+        let mut table = vec![0; wanted.saturating_mul(3)];
+        let told = sys::file_parts(self.bytes, self.allowance, &mut table).unwrap_or(0);
+        table.truncate(told.saturating_mul(3));
+        Parts {
+            table: table.into_iter(),
+        }
+    }
+
+    /// The bytes of a part.
+    pub fn part(&self, part: Part) -> &'a [u8] {
+        sys::part_of(self.bytes, part.start, part.len)
+    }
+
+    /// The VLRs, which stand between the header and the points.
+    pub fn vlrs(&self) -> Vlrs<'a> {
+        let count = u64::from(self.header.number_of_variable_length_records);
+        self.records_of(PartKind::Vlr, count)
+    }
+
+    /// The EVLRs, which stand after the points.
+    pub fn evlrs(&self) -> Vlrs<'a> {
+        let count = self
+            .header
+            .evlrs
+            .map_or(0, |evlrs| u64::from(evlrs.number_of_evlrs));
+        self.records_of(PartKind::Evlr, count)
+    }
+
+    /// The records of a kind, of which there are this many.
+    fn records_of(&self, kind: PartKind, count: u64) -> Vlrs<'a> {
+        Vlrs {
+            file: self.bytes,
+            parts: self.parts(),
+            kind,
+            left: sys::in_memory(count),
+        }
+    }
+
+    /// The points, each in turn. `len` says how many are left, and `nth` goes there without reading what lies between.
+    pub fn points(&self) -> Points<'a> {
+        let place = sys::file_walker(self.bytes, self.allowance);
+        Points {
+            file: self.bytes,
+            place,
+            record_length: u64::from(self.header.point_data_record_length),
+        }
+    }
+
+    /// The points as a run of records, to be converted.
+    pub fn run(&self) -> Run<'a> {
+        let length = u64::from(self.header.point_data_record_length);
+        let count = self.point_count();
+        let start = u64::from(self.header.offset_to_point_data);
+        Run {
+            format: self.header.point_data_record_format,
+            extra_bytes: self.header.format().map_or(0, |format| format.extra_bytes),
+            count,
+            records: sys::part_of(self.bytes, start, count.saturating_mul(length)),
+        }
+    }
+
+    /// Writes the file anew from what its readers answer to the front of `dst`, and answers its length; what lies past that
+    /// stays. The bytes are those that there were, except that an EVLR start and count of which one is zero become two
+    /// zeros. Refused with 22 where `dst` is shorter than the file.
+    pub fn rewrite(&self, dst: &mut [u8]) -> Result<usize, Refusal> {
+        sys::file_rewrite(self.bytes, self.allowance, dst)
+    }
+
+    /// The file written anew, as [`File::rewrite`] does.
+    pub fn rewritten(&self) -> Result<Vec<u8>, Refusal> {
+        let mut bytes = vec![0; self.bytes.len()];
+        self.rewrite(&mut bytes)?;
+        Ok(bytes)
+    }
+}
+
+/// What a part of a file is.
+#[derive(Clone, Copy, Debug, PartialEq, Eq, Hash)]
+pub enum PartKind {
+    /// The header with its padding.
+    Header,
+    /// A VLR, head and data.
+    Vlr,
+    /// Bytes that belong to no other part.
+    Gap,
+    /// The points; always there, if empty.
+    Points,
+    /// An EVLR, head and data.
+    Evlr,
+}
+
+impl PartKind {
+    /// The kind with this number in the library's table.
+    fn from_number(number: u64) -> Option<PartKind> {
+        match number {
+            0 => Some(PartKind::Header),
+            1 => Some(PartKind::Vlr),
+            2 => Some(PartKind::Gap),
+            3 => Some(PartKind::Points),
+            4 => Some(PartKind::Evlr),
+            _ => None,
+        }
+    }
+}
+
+impl fmt::Display for PartKind {
+    fn fmt(&self, f: &mut fmt::Formatter<'_>) -> fmt::Result {
+        f.pad(match self {
+            PartKind::Header => "header",
+            PartKind::Vlr => "vlr",
+            PartKind::Gap => "gap",
+            PartKind::Points => "points",
+            PartKind::Evlr => "evlr",
+        })
+    }
+}
+
+/// A part of a file.
+#[derive(Clone, Copy, Debug, PartialEq, Eq, Hash)]
+pub struct Part {
+    /// What it is.
+    pub kind: PartKind,
+    /// Its first byte.
+    pub start: u64,
+    /// Its bytes.
+    pub len: u64,
+}
+
+/// The parts of a file in their order; from [`File::parts`].
+#[derive(Clone, Debug)]
+pub struct Parts {
+    /// Kind, start and length of each, as the library tells them.
+    table: vec::IntoIter<u64>,
+}
+
+impl Iterator for Parts {
+    type Item = Part;
+
+    fn next(&mut self) -> Option<Part> {
+        let kind = PartKind::from_number(self.table.next()?)?;
+        let (start, len) = (self.table.next()?, self.table.next()?);
+        Some(Part { kind, start, len })
+    }
+
+    fn size_hint(&self) -> (usize, Option<usize>) {
+        let left = self.table.len() / 3;
+        (left, Some(left))
+    }
+}
+
+impl ExactSizeIterator for Parts {}
+
+impl FusedIterator for Parts {}
+
+/// VLRs or EVLRs in their order; from [`File::vlrs`] and [`File::evlrs`].
+#[derive(Clone, Debug)]
+pub struct Vlrs<'a> {
+    file: &'a [u8],
+    parts: Parts,
+    kind: PartKind,
+    left: usize,
+}
+
+impl<'a> Iterator for Vlrs<'a> {
+    type Item = Vlr<'a>;
+
+    fn next(&mut self) -> Option<Vlr<'a>> {
+        let kind = self.kind;
+        let part = self.parts.find(|part| part.kind == kind)?;
+        self.left = self.left.saturating_sub(1);
+        let bytes = sys::part_of(self.file, part.start, part.len);
+        Vlr::read(bytes, kind == PartKind::Evlr).ok()
+    }
+
+    fn size_hint(&self) -> (usize, Option<usize>) {
+        (self.left, Some(self.left))
+    }
+}
+
+impl ExactSizeIterator for Vlrs<'_> {}
+
+impl FusedIterator for Vlrs<'_> {}
+
+/// The points of a file, each in turn; from [`File::points`].
+#[derive(Clone, Debug)]
+pub struct Points<'a> {
+    file: &'a [u8],
+    place: Place,
+    record_length: u64,
+}
+
+impl<'a> Points<'a> {
+    /// How many points are left.
+    fn left(&self) -> u64 {
+        let [_, _, left, ..] = self.place;
+        left
+    }
+
+    /// The bytes of the next record, as that part of the file.
+    fn record(&self) -> &'a [u8] {
+        let [_, at, ..] = self.place;
+        sys::part_of(self.file, at, self.record_length)
+    }
+}
+
+impl<'a> Iterator for Points<'a> {
+    type Item = Point<'a>;
+
+    fn next(&mut self) -> Option<Point<'a>> {
+        let (record, [format, ..]) = (self.record(), self.place);
+        let numbers = sys::file_next(self.file, &mut self.place).ok()?;
+        Some(Point::from_numbers(
+            &numbers,
+            sys::point_extra(record, format as u32),
+        ))
+    }
+
+    fn size_hint(&self) -> (usize, Option<usize>) {
+        let left = sys::in_memory(self.left());
+        (left, Some(left))
+    }
+
+    fn nth(&mut self, n: usize) -> Option<Point<'a>> {
+        let [_, at, left, ..] = &mut self.place;
+        let skipped = (n as u64).min(*left);
+        *left = left.saturating_sub(skipped);
+        *at = at.saturating_add(skipped.saturating_mul(self.record_length));
+        self.next()
+    }
+}
+
+impl ExactSizeIterator for Points<'_> {}
+
+impl FusedIterator for Points<'_> {}

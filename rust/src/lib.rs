@@ -1,0 +1,100 @@
+//! LAS files, the format of lidar point clouds, checked, read, converted and rewritten by a library in which every function
+//! is machine-proved. This crate is the library's face for Rust: it adds names, types and iterators, and no rules of its
+//! own.
+//!
+//! A [`File`] is bytes that were found to be a LAS file by the standard's rules. Everything that is asked of it then has an
+//! answer: its [`Header`], its [`Part`]s, its [`Vlr`]s and its [`Point`]s. What cannot be answered is a [`Refusal`], with a
+//! number and a sentence.
+//!
+//! ```
+//! # fn made() -> Result<Vec<u8>, inscjarol::Refusal> {
+//! #     let mut header = inscjarol::Header::new(inscjarol::Version { major: 1, minor: 2 });
+//! #     header.number_of_point_records = 2;
+//! #     header.x_scale_factor = 0.01;
+//! #     let mut bytes = header.to_vec(&[])?;
+//! #     for x in [150, 250] {
+//! #         let point = inscjarol::Point { x, ..inscjarol::Point::default() };
+//! #         bytes.extend(point.to_vec(inscjarol::Format::default())?);
+//! #     }
+//! #     Ok(bytes)
+//! # }
+//! # fn main() -> Result<(), inscjarol::Refusal> {
+//! # let bytes = made()?;
+//! // The bytes of a file, as std::fs::read gives them.
+//! let file = inscjarol::File::check(&bytes)?;
+//! let header = file.header();
+//! println!("LAS {}, point format {}", header.version, header.point_data_record_format);
+//!
+//! let mut highest = i32::MIN;
+//! for point in file.points() {
+//!     highest = highest.max(point.z);
+//! }
+//! println!("{} points, the highest at {}", file.points().len(), header.z(highest));
+//!
+//! for part in file.parts() {
+//!     println!("{} {} {}", part.kind, part.start, part.len);
+//! }
+//!
+//! // Written anew from what was read, the file has the same bytes.
+//! assert_eq!(file.rewritten()?, bytes);
+//! # Ok(())
+//! # }
+//! ```
+//!
+//! A run of point records is made old, or new, by [`Run`]; a file's points are one ([`File::run`]):
+//!
+//! ```
+//! use inscjarol::{Flags, Format, Point, Run, ScanAngle};
+//!
+//! # fn main() -> Result<(), inscjarol::Refusal> {
+//! // Ground (class 2) flagged as overlap: the old formats say overlap by class 12 alone.
+//! let point = Point {
+//!     flags: Flags::ThreeByte(0x11, 0x08, 2),
+//!     scan_angle: ScanAngle::Scaled(0),
+//!     ..Point::default()
+//! };
+//! let records = point.to_vec(Format::new(6)?)?;
+//! let run = Run { format: 6, extra_bytes: 0, count: 1, records: &records };
+//! let refusal = run.to_old().unwrap_err();
+//! assert_eq!((refusal.number(), refusal.value(), refusal.record()), (19, 2, 1));
+//! # Ok(())
+//! # }
+//! ```
+//!
+//! What is proved, and what is trusted, is in `docs/TRUST.md` of the repository: the rules, layouts and conversions are
+//! proved; this crate, which declares the library's calls by hand and turns their numbers into types, is tested.
+
+#![deny(unsafe_code, missing_docs, rustdoc::broken_intra_doc_links)]
+#![cfg_attr(
+    not(test),
+    deny(
+        clippy::unwrap_used,
+        clippy::expect_used,
+        clippy::panic,
+        clippy::unreachable,
+        clippy::indexing_slicing
+    )
+)]
+
+mod angle;
+mod convert;
+mod file;
+mod flags;
+mod format;
+mod header;
+mod point;
+mod refusal;
+mod sys;
+mod text;
+mod vlr;
+
+pub use angle::ScanAngle;
+pub use convert::Run;
+pub use file::{allowance_for, Checked, File, Part, PartKind, Parts, Points, Vlrs};
+pub use flags::{Flags, ScanDirection};
+pub use format::Format;
+pub use header::{Evlrs, Header, LargeFile, Version};
+pub use point::{Color, Point, Waveform};
+pub use refusal::{Kind, Refusal};
+pub use text::text;
+pub use vlr::Vlr;

@@ -1,0 +1,459 @@
+//! Refusals: why a call did not answer, with the numbers of the library's table and in words.
+
+use std::{error, fmt};
+
+/// Which of the table's rows a refusal is of.
+///
+/// The numbers are those of every face of the library; a later version may add some at the end.
+#[derive(Clone, Copy, Debug, PartialEq, Eq, Hash)]
+#[non_exhaustive]
+pub enum Kind {
+    /// 1: there are fewer bytes than are needed.
+    Short,
+    /// 2: the file does not begin with `LASF`.
+    Signature,
+    /// 3: the version is none of 1.0 to 1.4.
+    Version,
+    /// 4: the header-size field is below the version's header.
+    HeaderSize,
+    /// 5: there is no such point format.
+    Format,
+    /// 6: the points are compressed.
+    Compressed,
+    /// 7: the version does not have this point format.
+    FormatForVersion,
+    /// 8: the record length is below the format's, or over 65,535.
+    RecordLength,
+    /// 9: the points start inside the header or beyond the file.
+    PointOffset,
+    /// 10: there are more VLRs and EVLRs than the caller allows.
+    Allowance,
+    /// 11: a VLR does not end where the points begin, or before.
+    VlrExtent,
+    /// 12: the points do not end in the file.
+    PointExtent,
+    /// 13: an EVLR does not end in the file.
+    EvlrExtent,
+    /// 14: the EVLRs start before the end of the points or beyond the file.
+    EvlrStart,
+    /// 15: a return number that the old formats do not hold.
+    ReturnNumber,
+    /// 16: a number of returns that the old formats do not hold.
+    NumberOfReturns,
+    /// 17: a class that the old formats do not hold.
+    Class,
+    /// 18: a scanner channel, which the old formats do not have.
+    Channel,
+    /// 19: an overlap flag that no old class shows.
+    Overlap,
+    /// 20: near infrared, which the old format does not have.
+    Nir,
+    /// 21: a scan angle that is no rank of the old formats.
+    Angle,
+    /// 22: the destination or the table is too small.
+    NoRoom,
+    /// 23: a point has another number of extra bytes than its format.
+    ExtraBytes,
+    /// 24: the data of a VLR are not of the length that it states.
+    VlrDataLength,
+    /// 25: no format code has these fields.
+    Attributes,
+    /// 26: the format has no pair to be converted to.
+    NoPair,
+    /// 27: there are no more points.
+    Index,
+    /// A number that this version of the crate does not know.
+    Unknown(u64),
+}
+
+impl Kind {
+    /// Every kind that has a number, in the table's order.
+    const ALL: [Kind; 27] = [
+        Kind::Short,
+        Kind::Signature,
+        Kind::Version,
+        Kind::HeaderSize,
+        Kind::Format,
+        Kind::Compressed,
+        Kind::FormatForVersion,
+        Kind::RecordLength,
+        Kind::PointOffset,
+        Kind::Allowance,
+        Kind::VlrExtent,
+        Kind::PointExtent,
+        Kind::EvlrExtent,
+        Kind::EvlrStart,
+        Kind::ReturnNumber,
+        Kind::NumberOfReturns,
+        Kind::Class,
+        Kind::Channel,
+        Kind::Overlap,
+        Kind::Nir,
+        Kind::Angle,
+        Kind::NoRoom,
+        Kind::ExtraBytes,
+        Kind::VlrDataLength,
+        Kind::Attributes,
+        Kind::NoPair,
+        Kind::Index,
+    ];
+
+    /// The kind with this number.
+    pub fn from_number(number: u64) -> Kind {
+        let known = number
+            .checked_sub(1)
+            .and_then(|place| usize::try_from(place).ok())
+            .and_then(|place| Kind::ALL.get(place));
+        known.copied().unwrap_or(Kind::Unknown(number))
+    }
+
+    /// The number in the library's table.
+    pub fn number(self) -> u64 {
+        match self {
+            Kind::Short => 1,
+            Kind::Signature => 2,
+            Kind::Version => 3,
+            Kind::HeaderSize => 4,
+            Kind::Format => 5,
+            Kind::Compressed => 6,
+            Kind::FormatForVersion => 7,
+            Kind::RecordLength => 8,
+            Kind::PointOffset => 9,
+            Kind::Allowance => 10,
+            Kind::VlrExtent => 11,
+            Kind::PointExtent => 12,
+            Kind::EvlrExtent => 13,
+            Kind::EvlrStart => 14,
+            Kind::ReturnNumber => 15,
+            Kind::NumberOfReturns => 16,
+            Kind::Class => 17,
+            Kind::Channel => 18,
+            Kind::Overlap => 19,
+            Kind::Nir => 20,
+            Kind::Angle => 21,
+            Kind::NoRoom => 22,
+            Kind::ExtraBytes => 23,
+            Kind::VlrDataLength => 24,
+            Kind::Attributes => 25,
+            Kind::NoPair => 26,
+            Kind::Index => 27,
+            Kind::Unknown(number) => number,
+        }
+    }
+
+    /// The name in the library's table.
+    pub fn name(self) -> &'static str {
+        match self {
+            Kind::Short => "short",
+            Kind::Signature => "signature",
+            Kind::Version => "version",
+            Kind::HeaderSize => "header size",
+            Kind::Format => "format",
+            Kind::Compressed => "compressed",
+            Kind::FormatForVersion => "format for version",
+            Kind::RecordLength => "record length",
+            Kind::PointOffset => "point offset",
+            Kind::Allowance => "allowance",
+            Kind::VlrExtent => "VLR extent",
+            Kind::PointExtent => "point extent",
+            Kind::EvlrExtent => "EVLR extent",
+            Kind::EvlrStart => "EVLR start",
+            Kind::ReturnNumber => "return number",
+            Kind::NumberOfReturns => "number of returns",
+            Kind::Class => "class",
+            Kind::Channel => "channel",
+            Kind::Overlap => "overlap",
+            Kind::Nir => "NIR",
+            Kind::Angle => "angle",
+            Kind::NoRoom => "no room",
+            Kind::ExtraBytes => "extra bytes",
+            Kind::VlrDataLength => "VLR data length",
+            Kind::Attributes => "attributes",
+            Kind::NoPair => "no pair",
+            Kind::Index => "index",
+            Kind::Unknown(_) => "unknown",
+        }
+    }
+}
+
+/// Why a call refused: the kind, the value that the table has for it, and the number of the record.
+///
+/// A refused call has left all memory that it was lent as it was. Shown with `{}`, a refusal is a sentence that names the
+/// field and what was expected there.
+///
+/// ```
+/// let refusal = inscjarol::File::check(b"").unwrap_err();
+/// assert_eq!((refusal.number(), refusal.name(), refusal.value(), refusal.record()), (1, "short", 4, 0));
+/// assert_eq!(refusal.to_string(), "too short: 4 bytes are needed to begin with");
+/// ```
+#[derive(Clone, Copy, Debug, PartialEq, Eq, Hash)]
+pub struct Refusal {
+    kind: Kind,
+    value: u64,
+    record: u64,
+}
+
+impl Refusal {
+    /// The refusal of a row of the library's answers.
+    pub(crate) fn from_row(number: u64, value: u64, record: u64) -> Refusal {
+        Refusal {
+            kind: Kind::from_number(number),
+            value,
+            record,
+        }
+    }
+
+    /// Which row of the table it is.
+    pub fn kind(&self) -> Kind {
+        self.kind
+    }
+
+    /// The number in the library's table, 1 to 27.
+    pub fn number(&self) -> u64 {
+        self.kind.number()
+    }
+
+    /// The name in the library's table.
+    pub fn name(&self) -> &'static str {
+        self.kind.name()
+    }
+
+    /// The value that the table has for this number: mostly the field that was found, or the bytes that are needed.
+    pub fn value(&self) -> u64 {
+        self.value
+    }
+
+    /// The record that was refused, counted from 1: a VLR or EVLR, counted through both kinds, or a point of a run. Else 0.
+    pub fn record(&self) -> u64 {
+        self.record
+    }
+
+    /// "point 7: ", or nothing where no point was counted.
+    fn point(&self) -> String {
+        match self.record {
+            0 => String::new(),
+            record => format!("point {record}: "),
+        }
+    }
+}
+
+impl error::Error for Refusal {}
+
+impl fmt::Display for Refusal {
+    fn fmt(&self, f: &mut fmt::Formatter<'_>) -> fmt::Result {
+        let (value, record, point) = (self.value, self.record, self.point());
+        match self.kind {
+            Kind::Short => match value {
+                0 => f.write_str("too short: more than 2^64 - 1 bytes would be needed"),
+                4 => f.write_str("too short: 4 bytes are needed to begin with"),
+                _ => write!(f, "too short: {value} bytes are needed"),
+            },
+            Kind::Signature => {
+                let found = (value as u32).to_le_bytes();
+                write!(
+                    f,
+                    "not a LAS file: it must begin with \"LASF\", and begins with \"{}\"",
+                    found.escape_ascii()
+                )
+            }
+            Kind::Version => write!(
+                f,
+                "the version (header bytes 24 and 25) is {}.{}: LAS 1.0 to 1.4 are known",
+                value / 256,
+                value % 256
+            ),
+            Kind::HeaderSize => write!(
+                f,
+                "the header size (header byte 94) is {value}, less than the header itself: 227 bytes in LAS 1.0 to 1.2, \
+                 235 in 1.3, 375 in 1.4"
+            ),
+            Kind::Format => write!(
+                f,
+                "the point format (header byte 104) is {value}: formats 0 to 10 are known"
+            ),
+            Kind::Compressed => write!(
+                f,
+                "the point format (header byte 104) is {value}: the points are compressed (LAZ), and have to be \
+                 decompressed first"
+            ),
+            Kind::FormatForVersion => write!(
+                f,
+                "the point format (header byte 104) is {value}, which this version does not have: LAS 1.0 and 1.1 have \
+                 formats 0 and 1, 1.2 has 0 to 3, 1.3 has 0 to 5, 1.4 has 0 to 10"
+            ),
+            Kind::RecordLength if value > 65_535 => write!(
+                f,
+                "a point record of this format would have {value} bytes: 65535 are the most"
+            ),
+            Kind::RecordLength => write!(
+                f,
+                "the point record length (header byte 105) is {value}, less than a point of the file's format has"
+            ),
+            Kind::PointOffset => write!(
+                f,
+                "the offset to the point data (header byte 96) is {value}: it must be at least the header size, and \
+                 not beyond the end of the file"
+            ),
+            Kind::Allowance => write!(
+                f,
+                "there are more than the {value} VLRs and EVLRs that were allowed"
+            ),
+            Kind::VlrExtent if value == 0 => write!(
+                f,
+                "VLR {record}: its head of 54 bytes runs past the offset to the point data; the number of VLRs (header \
+                 byte 100) or that offset (header byte 96) may be wrong"
+            ),
+            Kind::VlrExtent => write!(
+                f,
+                "VLR {record}: its {value} bytes of data run past the offset to the point data (header byte 96)"
+            ),
+            Kind::PointExtent => write!(
+                f,
+                "the points run past the end of the file: the header counts {value} of them; the file may have been cut \
+                 off"
+            ),
+            Kind::EvlrExtent if value == 0 => write!(
+                f,
+                "record {record}, an EVLR: its head of 60 bytes runs past the end of the file; the file may have been \
+                 cut off"
+            ),
+            Kind::EvlrExtent => write!(
+                f,
+                "record {record}, an EVLR: its {value} bytes of data run past the end of the file; the file may have \
+                 been cut off"
+            ),
+            Kind::EvlrStart => write!(
+                f,
+                "the start of the first EVLR (header byte 235) is {value}: it must not be before the end of the points, \
+                 and not beyond the end of the file"
+            ),
+            Kind::ReturnNumber => write!(
+                f,
+                "{point}the return number is {value}: the old point formats hold 0 to 7"
+            ),
+            Kind::NumberOfReturns => write!(
+                f,
+                "{point}the number of returns is {value}: the old point formats hold 0 to 7"
+            ),
+            Kind::Class => write!(
+                f,
+                "{point}the class is {value}: the old point formats hold 0 to 31"
+            ),
+            Kind::Channel => write!(
+                f,
+                "{point}the scanner channel is {value}: the old point formats have none, which is 0"
+            ),
+            Kind::Overlap if value == 12 => write!(
+                f,
+                "{point}class 12 without the overlap flag: in the old point formats class 12 says overlap"
+            ),
+            Kind::Overlap if value == 28 => write!(
+                f,
+                "{point}class 28: some readers of the old point formats take it for overlap and some do not"
+            ),
+            Kind::Overlap => write!(
+                f,
+                "{point}the overlap flag on class {value}: the old point formats say overlap by class 12 alone, and \
+                 class {value} would be lost"
+            ),
+            Kind::Nir => write!(
+                f,
+                "{point}near infrared is {value}: the old point format has none, which is 0"
+            ),
+            Kind::Angle => {
+                let scaled = i64::from(value as u16 as i16);
+                let thousandths = scaled * 6;
+                let sign = if thousandths < 0 { "-" } else { "" };
+                let (whole, rest) = (thousandths.abs() / 1000, thousandths.abs() % 1000);
+                write!(
+                    f,
+                    "{point}the scan angle is {sign}{whole}.{rest:03} degrees: rounded, it must be -128 to 127 in the \
+                     old point formats"
+                )
+            }
+            Kind::NoRoom => match value {
+                0 => f.write_str("no room: more than 2^64 - 1 bytes would be needed"),
+                _ => write!(f, "no room: {value} bytes or entries are needed"),
+            },
+            Kind::ExtraBytes => write!(
+                f,
+                "a point of this format has {value} extra bytes, and another number was given"
+            ),
+            Kind::VlrDataLength => write!(
+                f,
+                "the record states {value} bytes of data, and another number was given; a VLR holds at most 65535"
+            ),
+            Kind::Attributes => {
+                f.write_str("no point format has just these fields; formats 0 to 10 are known")
+            }
+            Kind::NoPair => write!(
+                f,
+                "point format {value} has no pair to be converted to: 6 to 10 have old ones (1, 3, 3, 4, 5), and 1, 3, 4 \
+                 and 5 new ones (6, 7, 9, 10)"
+            ),
+            Kind::Index => write!(f, "there are no more points: the file has {value}"),
+            Kind::Unknown(number) => write!(
+                f,
+                "refusal {number} with value {value}, which this version of the crate does not know"
+            ),
+        }
+    }
+}
+
+#[cfg(test)]
+mod tests {
+    use super::*;
+
+    #[test]
+    fn numbers_and_kinds_go_both_ways() {
+        for number in 0..=40 {
+            assert_eq!(Kind::from_number(number).number(), number);
+        }
+        assert_eq!(Kind::from_number(0), Kind::Unknown(0));
+        assert_eq!(Kind::from_number(27), Kind::Index);
+        assert_eq!(Kind::from_number(28), Kind::Unknown(28));
+        assert_eq!(Kind::from_number(u64::MAX), Kind::Unknown(u64::MAX));
+    }
+
+    #[test]
+    fn every_kind_has_a_name_and_a_sentence_of_its_own() {
+        let mut names = Vec::new();
+        let mut sentences = Vec::new();
+        for number in 1..=27 {
+            let refusal = Refusal::from_row(number, 7, 3);
+            names.push(refusal.name());
+            sentences.push(refusal.to_string());
+        }
+        names.sort_unstable();
+        names.dedup();
+        sentences.sort_unstable();
+        sentences.dedup();
+        assert_eq!((names.len(), sentences.len()), (27, 27));
+        assert!(sentences.iter().all(|words| !words.ends_with('.')));
+    }
+
+    fn words(number: u64, value: u64, record: u64) -> String {
+        Refusal::from_row(number, value, record).to_string()
+    }
+
+    #[test]
+    fn the_sentence_says_what_was_found() {
+        assert_eq!(
+            words(2, u64::from(u32::from_le_bytes(*b"L\0\"\xff")), 0),
+            r#"not a LAS file: it must begin with "LASF", and begins with "L\x00\"\xff""#
+        );
+        assert!(words(3, 256 + 5, 0).contains("is 1.5: LAS 1.0 to 1.4"));
+        assert!(words(11, 0, 2).starts_with("VLR 2: its head of 54 bytes"));
+        assert!(words(11, 90, 2).starts_with("VLR 2: its 90 bytes of data"));
+        assert!(words(13, 0, 5).starts_with("record 5, an EVLR: its head of 60 bytes"));
+        assert!(words(19, 2, 41).starts_with("point 41: the overlap flag on class 2"));
+        assert!(words(19, 12, 1).contains("class 12 without the overlap flag"));
+        assert!(words(19, 28, 1).contains("class 28"));
+        assert!(words(21, 21_250, 9).contains("is 127.500 degrees"));
+        assert!(words(21, 65_536 - 21_417, 9).contains("is -128.502 degrees"));
+        assert!(words(21, 65_535, 9).contains("is -0.006 degrees"));
+        assert!(words(8, 70_000, 0).contains("would have 70000 bytes"));
+        assert!(words(8, 19, 0).contains("record length (header byte 105) is 19"));
+        assert!(words(15, 8, 0).starts_with("the return number is 8"));
+    }
+}

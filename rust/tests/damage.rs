@@ -1,0 +1,135 @@
+//! Files damaged at random: nothing panics, and check, parts, points and rewriting agree with each other.
+
+mod common;
+
+use common::{plain, rich, sample, two_points, Chance};
+use inscjarol::{allowance_for, Checked, File, PartKind, Point, Vlr};
+use std::fs;
+
+/// All that can be asked of some bytes, held against each other.
+fn agree(bytes: &[u8]) -> bool {
+    let allowance = allowance_for(bytes.len());
+    let Checked { answer, records } = File::judge(bytes, allowance);
+    assert!(records <= allowance);
+    let file = match File::check(bytes) {
+        Ok(file) => file,
+        Err(refusal) => {
+            assert_eq!(answer, Err(refusal));
+            assert!((1..=27).contains(&refusal.number()));
+            assert!(!refusal.to_string().is_empty());
+            return false;
+        }
+    };
+    assert_eq!(answer, Ok(()));
+    assert_eq!(file.records(), records);
+
+    // The parts cover the file, and the records among them are those that were counted.
+    let mut at = 0;
+    let mut of_records = 0;
+    let mut points_part = None;
+    for part in file.parts() {
+        assert_eq!(part.start, at);
+        assert_eq!(file.part(part).len() as u64, part.len);
+        at += part.len;
+        match part.kind {
+            PartKind::Vlr | PartKind::Evlr => {
+                of_records += 1;
+                let vlr = Vlr::read(file.part(part), part.kind == PartKind::Evlr).unwrap();
+                assert_eq!(vlr.size() as u64, part.len);
+                assert_eq!(vlr.to_vec().unwrap(), file.part(part));
+            }
+            PartKind::Points => points_part = Some(part),
+            PartKind::Header | PartKind::Gap => {}
+        }
+    }
+    assert_eq!(at, bytes.len() as u64);
+    assert_eq!(of_records, records);
+    assert_eq!(file.vlrs().len() + file.evlrs().len(), of_records as usize);
+
+    // The points are the records of their part, each read by itself.
+    let format = file.header().format().unwrap();
+    let run = file.part(points_part.unwrap());
+    assert_eq!(file.run().records, run);
+    let length = usize::from(file.header().point_data_record_length);
+    assert_eq!(run.len() % length, 0);
+    assert_eq!(file.points().len(), run.len() / length);
+    assert_eq!(file.point_count(), (run.len() / length) as u64);
+    for (record, point) in run.chunks_exact(length).zip(file.points()) {
+        assert_eq!(Point::read(record, format), Ok(point));
+    }
+
+    // Rewritten it has the same bytes, but for a half-zero EVLR pair.
+    let mut rewritten = file.rewritten().unwrap();
+    if rewritten != bytes {
+        assert_eq!(file.header().evlrs, None);
+        assert_eq!(rewritten[235..247], [0; 12]);
+        rewritten[235..247].copy_from_slice(&bytes[235..247]);
+        assert_eq!(rewritten, bytes);
+    }
+
+    // Made old and new again, whatever comes of it.
+    let run = file.run();
+    if let Ok(old) = run.to_old() {
+        assert!(old.len() <= run.records.len());
+    }
+    if let Ok(new) = run.to_new() {
+        assert!(new.len() >= run.records.len());
+    }
+    true
+}
+
+#[test]
+fn whole_files_agree() {
+    for bytes in [plain(0), plain(3), two_points()] {
+        assert!(agree(&bytes));
+    }
+    for code in 0..=10 {
+        assert!(agree(&rich(code, u16::from(code))));
+    }
+    assert!(agree(&fs::read(sample()).unwrap()));
+}
+
+#[test]
+fn cut_files_agree() {
+    for bytes in [plain(3), two_points(), rich(6, 2), rich(3, 0)] {
+        for end in 0..bytes.len() {
+            agree(&bytes[..end]);
+        }
+    }
+}
+
+#[test]
+fn damaged_files_agree() {
+    let whole: Vec<Vec<u8>> = vec![
+        plain(3),
+        two_points(),
+        rich(1, 1),
+        rich(5, 0),
+        rich(6, 2),
+        rich(8, 0),
+        rich(10, 7),
+    ];
+    let mut chance = Chance(1);
+    let (mut accepted, mut refused) = (0, 0);
+    for _ in 0..60_000 {
+        let mut bytes = whole[chance.below(whole.len())].clone();
+        for _ in 0..=chance.below(3) {
+            // Mostly where the rules look.
+            let end = [bytes.len(), 256, 110][chance.below(3)].min(bytes.len());
+            let place = chance.below(end);
+            bytes[place] = match chance.below(3) {
+                0 => chance.next() as u8,
+                1 => bytes[place].wrapping_add(1),
+                _ => bytes[place].wrapping_sub(1),
+            };
+        }
+        if chance.below(8) == 0 {
+            bytes.truncate(chance.below(bytes.len()));
+        }
+        match agree(&bytes) {
+            true => accepted += 1,
+            false => refused += 1,
+        }
+    }
+    assert!(accepted > 5_000 && refused > 5_000, "{accepted} {refused}");
+}

@@ -1,0 +1,259 @@
+//! The crate against the numbers and examples of the scope that the library was ordered by.
+
+mod common;
+
+use common::{plain, rich, two_points, TWO_POINTS};
+use inscjarol::{
+    allowance_for, Checked, File, Format, Header, Kind, Part, PartKind, Point, Refusal, Version,
+};
+
+fn refused(bytes: &[u8]) -> (u64, u64, u64) {
+    let refusal = File::check(bytes).unwrap_err();
+    (refusal.number(), refusal.value(), refusal.record())
+}
+
+/// A file with a number written over.
+fn with(mut bytes: Vec<u8>, place: usize, number: &[u8]) -> Vec<u8> {
+    bytes[place..place + number.len()].copy_from_slice(number);
+    bytes
+}
+
+#[test]
+fn a_header_alone_is_a_file() {
+    let bytes = plain(0);
+    assert_eq!(bytes.len(), 227);
+    let file = File::check(&bytes).unwrap();
+    assert_eq!(
+        (file.points().len(), file.records(), file.point_count()),
+        (0, 0, 0)
+    );
+    assert_eq!(file.points().next(), None);
+}
+
+#[test]
+fn one_point_or_one_byte_less() {
+    let bytes = plain(1);
+    assert_eq!(bytes.len(), 247);
+    assert_eq!(File::check(&bytes).unwrap().points().count(), 1);
+    assert_eq!(refused(&bytes[..246]), (12, 1, 0));
+}
+
+#[test]
+fn the_parts_of_the_example() {
+    let bytes = two_points();
+    assert_eq!(bytes.len(), 327);
+    let file = File::check(&bytes).unwrap();
+    let mut listed = String::from("kind start length\n");
+    for part in file.parts() {
+        listed += &format!("{} {} {}\n", part.kind, part.start, part.len);
+    }
+    assert_eq!(listed, TWO_POINTS);
+    assert_eq!(file.parts().len(), 4);
+    assert_eq!(file.records(), 1);
+    let vlr = file.vlrs().next().unwrap();
+    assert_eq!(
+        (vlr.user().as_ref(), vlr.record_id, vlr.data),
+        ("somebody", 1, b"data".as_slice())
+    );
+    assert_eq!(file.evlrs().len(), 0);
+    let gap = Part {
+        kind: PartKind::Gap,
+        start: 285,
+        len: 2,
+    };
+    assert_eq!(file.part(gap), b"\xdd\xcc");
+    let xs: Vec<i32> = file.points().map(|point| point.x).collect();
+    assert_eq!(xs, [3, -3]);
+}
+
+#[test]
+fn every_refusal_of_the_file_check() {
+    assert_eq!(refused(b""), (1, 4, 0));
+    assert_eq!(refused(b"LAS"), (1, 4, 0));
+    assert_eq!(
+        refused(b"LASX"),
+        (2, u64::from(u32::from_le_bytes(*b"LASX")), 0)
+    );
+    assert_eq!(refused(b"LASF"), (1, 26, 0));
+    assert_eq!(refused(&with(plain(0), 25, &[5])), (3, 261, 0));
+    assert_eq!(refused(&plain(0)[..226]), (1, 227, 0));
+    assert_eq!(refused(&with(plain(0), 94, &[228, 0])), (1, 228, 0));
+    assert_eq!(refused(&with(plain(0), 94, &[226, 0])), (4, 226, 0));
+    assert_eq!(refused(&with(plain(0), 104, &[11])), (5, 11, 0));
+    assert_eq!(refused(&with(plain(0), 104, &[128])), (6, 128, 0));
+    assert_eq!(refused(&with(plain(0), 104, &[4])), (7, 4, 0));
+    assert_eq!(refused(&with(plain(0), 105, &[19, 0])), (8, 19, 0));
+    assert_eq!(refused(&with(plain(0), 96, &[226, 0])), (9, 226, 0));
+    assert_eq!(refused(&with(plain(0), 96, &[228, 0])), (9, 228, 0));
+    assert_eq!(refused(&with(two_points(), 100, &[2])), (11, 0, 2));
+    assert_eq!(refused(&with(two_points(), 227 + 20, &[7])), (11, 7, 1));
+    assert_eq!(refused(&two_points()[..326]), (12, 2, 0));
+    let bytes = rich(6, 2);
+    let file = File::check(&bytes).unwrap();
+    let evlrs: Vec<Part> = file
+        .parts()
+        .filter(|part| part.kind == PartKind::Evlr)
+        .collect();
+    let (first, second) = (evlrs[0], evlrs[1]);
+    assert_eq!(refused(&bytes[..second.start as usize]), (13, 0, 4));
+    assert_eq!(refused(&bytes[..first.start as usize + 62]), (13, 3, 3));
+    let early = first.start - 7;
+    assert_eq!(
+        refused(&with(bytes.clone(), 235, &early.to_le_bytes())),
+        (14, early, 0)
+    );
+}
+
+#[test]
+fn an_allowance_is_spent_by_both_kinds() {
+    let bytes = rich(6, 2);
+    for allowance in 0..4 {
+        let refusal = File::check_within(&bytes, allowance).unwrap_err();
+        assert_eq!(
+            (refusal.kind(), refusal.value(), refusal.record()),
+            (Kind::Allowance, allowance, allowance + 1)
+        );
+        let Checked { answer, records } = File::judge(&bytes, allowance);
+        assert_eq!((answer, records), (Err(refusal), allowance));
+    }
+    assert_eq!(File::check_within(&bytes, 4).unwrap().records(), 4);
+    assert_eq!(allowance_for(bytes.len()), bytes.len() as u64 / 54);
+}
+
+#[test]
+fn the_usual_allowance_is_never_spent() {
+    // As many VLRs without data as a file has room for, and a header that counts one more.
+    for count in [0, 1, 2, 50] {
+        let mut header = Header::new(Version { major: 1, minor: 2 });
+        header.number_of_variable_length_records = count + 1;
+        header.offset_to_point_data = 227 + 54 * count;
+        let mut bytes = header.to_vec(&[]).unwrap();
+        bytes.resize(bytes.len() + 54 * count as usize, 0);
+        assert_eq!(refused(&bytes), (11, 0, u64::from(count) + 1));
+    }
+}
+
+#[test]
+fn everything_of_a_rich_file() {
+    for (code, extra) in [
+        (0, 0),
+        (1, 1),
+        (3, 2),
+        (5, 0),
+        (6, 2),
+        (7, 0),
+        (8, 3),
+        (9, 1),
+        (10, 300),
+    ] {
+        let bytes = rich(code, extra);
+        let file = File::check(&bytes).unwrap();
+        assert_eq!(file.padding(), b"pad");
+        assert_eq!(file.bytes(), bytes);
+        assert_eq!(
+            (file.records(), file.vlrs().len(), file.evlrs().len()),
+            (4, 2, 2)
+        );
+        let about: Vec<String> = file.vlrs().map(|vlr| vlr.about().into_owned()).collect();
+        assert_eq!(about, ["text", "empty"]);
+        assert!(file.evlrs().all(|evlr| evlr.extended));
+
+        let format = file.header().format().unwrap();
+        assert_eq!((format.to_u8(), format.extra_bytes), (Ok(code), extra));
+        let mut at = 0;
+        for part in file.parts() {
+            assert_eq!(part.start, at);
+            at += part.len;
+        }
+        assert_eq!(at, bytes.len() as u64);
+
+        let run = file.run();
+        assert_eq!((run.count, run.format, run.extra_bytes), (5, code, extra));
+        let mut records = run.records.chunks_exact(usize::from(format.len().unwrap()));
+        let mut points = file.points();
+        assert_eq!(points.len(), 5);
+        for left in (0..5).rev() {
+            let (record, point) = (records.next().unwrap(), points.next().unwrap());
+            assert_eq!(points.len(), left);
+            assert_eq!(Point::read(record, format), Ok(point));
+            assert_eq!(point.extra_bytes.len(), usize::from(extra));
+            assert_eq!(point.to_vec(format).unwrap(), record);
+        }
+        assert_eq!(
+            (points.next(), points.next(), points.len()),
+            (None, None, 0)
+        );
+        assert_eq!(
+            Header::end_of_points(&bytes),
+            Ok(u64::from(file.header().offset_to_point_data) + run.records.len() as u64)
+        );
+        assert_eq!(file.rewritten().unwrap(), bytes);
+    }
+}
+
+#[test]
+fn going_to_a_point_at_once() {
+    let bytes = rich(7, 5);
+    let file = File::check(&bytes).unwrap();
+    let all: Vec<Point> = file.points().collect();
+    for n in 0..8 {
+        let mut points = file.points();
+        assert_eq!(points.nth(n), all.get(n).copied());
+        assert_eq!(points.len(), 5_usize.saturating_sub(n + 1));
+        assert_eq!(points.next(), all.get(n + 1).copied());
+    }
+    assert_eq!(file.points().skip(2).step_by(2).count(), 2);
+    assert_eq!(file.points().last(), all.last().copied());
+    assert_eq!(file.points().nth(usize::MAX), None);
+}
+
+#[test]
+fn a_half_zero_pair_becomes_two_zeros() {
+    let mut bytes = rich(6, 0);
+    bytes[243..247].copy_from_slice(&[0; 4]);
+    let file = File::check(&bytes).unwrap();
+    assert_eq!((file.header().evlrs, file.evlrs().len()), (None, 0));
+    let mut expected = bytes.clone();
+    expected[235..247].copy_from_slice(&[0; 12]);
+    assert_ne!(expected, bytes);
+    assert_eq!(file.rewritten().unwrap(), expected);
+}
+
+#[test]
+fn rewriting_leaves_what_lies_past_the_file() {
+    let bytes = two_points();
+    let file = File::check(&bytes).unwrap();
+    let mut dst = vec![0xa5; 400];
+    assert_eq!(file.rewrite(&mut dst), Ok(327));
+    assert_eq!(dst[..327], bytes);
+    assert_eq!(dst[327..], [0xa5; 73]);
+    let mut short = vec![0xa5; 326];
+    let refusal = file.rewrite(&mut short).unwrap_err();
+    assert_eq!((refusal.number(), refusal.value()), (22, 327));
+    assert_eq!(short, vec![0xa5; 326]);
+}
+
+#[test]
+fn a_refusal_is_an_error() {
+    fn read(bytes: &[u8]) -> Result<usize, Box<dyn std::error::Error + Send + Sync>> {
+        Ok(File::check(bytes)?.points().len())
+    }
+    assert_eq!(read(&plain(2)).unwrap(), 2);
+    let error = read(&plain(2)[..250]).unwrap_err();
+    let refusal = error.downcast_ref::<Refusal>().unwrap();
+    assert_eq!(refusal.kind(), Kind::PointExtent);
+    assert!(error.to_string().contains("the header counts 2 of them"));
+}
+
+#[test]
+fn the_large_count_where_the_legacy_one_is_zero() {
+    let bytes = rich(6, 0);
+    assert_eq!(File::check(&bytes).unwrap().point_count(), 5);
+    let both = with(bytes, 107, &[3]);
+    assert_eq!(File::check(&both).unwrap().points().len(), 3);
+}
+
+#[test]
+fn the_default_format_is_0() {
+    assert_eq!(Format::new(0), Ok(Format::default()));
+}
