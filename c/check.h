@@ -41,6 +41,7 @@ extern const uint8_t guid[16], system_identifier[32], software[32];
 
 /* The tests of each part of the header. */
 void test_formats(void);
+void test_layouts(void);
 void test_flags(void);
 void test_angles(void);
 void test_points(void);

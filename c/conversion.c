@@ -108,6 +108,12 @@ static void test_refused_records(void) {
         run[RECORD + 19] = (uint8_t)((uint16_t)records[i].scaled >> 8);
         las_convert_to_old(run, sizeof run, 7, 2, 3, dst, sizeof dst, row);
         CHECK(told(row, records[i].number, records[i].value, 2) && left_bytes(dst, sizeof dst));
+
+        /* and so says the check of that record alone */
+        uint64_t point[LAS_POINT_NUMBERS];
+        las_point_read(run + RECORD, RECORD, LAS_FORMAT_TIME | LAS_FORMAT_COLOR | LAS_FORMAT_EXTENDED, row, point);
+        las_strict_check(point, row);
+        CHECK(told(row, records[i].number, records[i].value, 0));
     }
 
     /* overlap of class 12 fits, and so do the last angles */
@@ -117,6 +123,19 @@ static void test_refused_records(void) {
     run[16] = 12;
     las_convert_to_old(run, sizeof run, 7, 2, 1, dst, sizeof dst, row);
     CHECK(told(row, LAS_OK, 36, 0) && dst[14] == 0x09 && dst[15] == 0x0C);
+    uint64_t point[LAS_POINT_NUMBERS];
+    las_point_default(point);
+    point[LAS_POINT_FLAGS] = las_flags_three_bytes(0x11, 0x08, 12);
+    static const int16_t last[2] = {21249, -21416};
+    for (size_t i = 0; i < 2; i++) {
+        point[LAS_POINT_SCAN_ANGLE] = las_angle_scaled(last[i]);
+        las_strict_check(point, row);
+        CHECK(told(row, LAS_OK, 0, 0));
+    }
+    point[LAS_POINT_HAS_NIR] = 1;
+    point[LAS_POINT_NIR] = 7;
+    las_strict_check(point, row);
+    CHECK(told(row, LAS_REFUSED_NIR, 7, 0));
 
     /* near infrared, of format 8: two bytes after the colour */
     uint8_t infrared[38] = {0};
@@ -128,7 +147,27 @@ static void test_refused_records(void) {
     CHECK(told(row, LAS_REFUSED_NIR, 256, 1));
 }
 
+/* The upgrade of one point. */
+static void test_upgraded(void) {
+    uint64_t point[LAS_POINT_NUMBERS], new[LAS_POINT_NUMBERS];
+    las_point_default(point);
+    point[LAS_POINT_X] = 5;
+    point[LAS_POINT_FLAGS] = las_flags_two_bytes(0x51, 0x22);
+    point[LAS_POINT_SCAN_ANGLE] = las_angle_rank(3);
+    memcpy(new, point, sizeof new);
+    las_strict_upgraded(new);
+    point[LAS_POINT_FLAGS] = las_flags_three_bytes(0x21, 0x41, 0x02);
+    point[LAS_POINT_SCAN_ANGLE] = las_angle_scaled(500);
+    CHECK(memcmp(new, point, sizeof new) == 0);
+    las_strict_upgraded(new);
+    CHECK(memcmp(new, point, sizeof new) == 0);
+    new[LAS_POINT_FLAGS] = las_flags_two_bytes(0x09, 12);
+    las_strict_upgraded(new);
+    CHECK(new[LAS_POINT_FLAGS] == las_flags_three_bytes(0x11, 0x08, 12));
+}
+
 void test_conversion(void) {
+    test_upgraded();
     test_both_ways();
     test_refused_runs();
     test_refused_records();

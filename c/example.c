@@ -33,26 +33,19 @@ int main(int argc, char **argv) {
         return 2;
     }
 
-    uint64_t row[4];
-    las_file_check(file, len, UINT64_MAX, row);
+    /* The file check, and then the parts in their order. */
+    static const char *const kinds[] = {"header", "vlr", "gap", "points", "evlr"};
+    uint64_t row[3], cursor[LAS_CURSOR_NUMBERS], part[LAS_ENTRY_NUMBERS];
+    las_cursor_start(file, len, UINT64_MAX, cursor, row);
     if (row[LAS_ROW_NUMBER] != LAS_OK) {
         printf("refused %" PRIu64 " %" PRIu64 " %" PRIu64 "\n", row[LAS_ROW_NUMBER], row[LAS_ROW_VALUE], row[LAS_ROW_RECORD]);
         return 1;
     }
-
-    /* Beside VLRs and EVLRs, whose number the check told, there are the header, the points and at most three gaps. */
-    static const char *const kinds[] = {"header", "vlr", "gap", "points", "evlr"};
-    size_t room = (size_t)(row[LAS_ROW_WHOLE] + 5) * LAS_ENTRY_NUMBERS;
-    uint64_t *table = malloc(room * sizeof *table);
-    if (table == NULL) {
-        return 2;
-    }
-    las_file_parts(file, len, UINT64_MAX, table, room, row);
-    for (uint64_t i = 0; i < row[LAS_ROW_VALUE]; i++) {
-        const uint64_t *part = table + i * LAS_ENTRY_NUMBERS;
+    while (las_cursor_next(file, len, cursor, part)) {
         printf("%s %" PRIu64 " %" PRIu64 "\n", kinds[part[LAS_ENTRY_KIND]], part[LAS_ENTRY_START], part[LAS_ENTRY_LENGTH]);
     }
 
+    /* The first three points, by the header's scale and offset. */
     uint64_t header[LAS_HEADER_NUMBERS], place[LAS_PLACE_NUMBERS], point[LAS_POINT_NUMBERS];
     uint8_t guid[LAS_HEADER_GUID_BYTES], system[LAS_HEADER_SYSTEM_BYTES], software[LAS_HEADER_SOFTWARE_BYTES];
     las_header_read(file, len, row, header, guid, system, software);

@@ -178,8 +178,44 @@ static void test_file_parts(void) {
     CHECK(entry(table, 6, LAS_PART_GAP, 624, 7));
 }
 
+/* The cursor tells what the table has, and at the end no more. */
+static void test_cursor(void) {
+    uint64_t row[3], table[8 * LAS_ENTRY_NUMBERS], cursor[LAS_CURSOR_NUMBERS], kept[LAS_CURSOR_NUMBERS];
+    static uint8_t file[700];
+    size_t len = make_file(file, sizeof file);
+    fill_numbers(row, 3);
+    fill_numbers(cursor, LAS_CURSOR_NUMBERS);
+
+    las_cursor_start(file, len, 1, cursor, row);
+    CHECK(told(row, LAS_REFUSED_ALLOWANCE, 1, 2) && left_numbers(cursor, LAS_CURSOR_NUMBERS));
+    las_file_parts(file, len, 2, table, 8 * LAS_ENTRY_NUMBERS, row);
+    las_cursor_start(file, len, 2, cursor, row);
+    CHECK(told(row, LAS_OK, 0, 0));
+    CHECK(cursor[LAS_CURSOR_STAGE] == 0 && cursor[LAS_CURSOR_AT] == 0 && cursor[LAS_CURSOR_LEFT] == 0);
+    CHECK(cursor[LAS_CURSOR_HEADER_SIZE] == 378 && cursor[LAS_CURSOR_NUMBER_OF_VLRS] == 1);
+    CHECK(cursor[LAS_CURSOR_POINT_OFFSET] == 440 && cursor[LAS_CURSOR_END_OF_POINTS] == 554);
+    CHECK(cursor[LAS_CURSOR_EVLR_START] == 559 && cursor[LAS_CURSOR_NUMBER_OF_EVLRS] == 1);
+    uint64_t part[LAS_ENTRY_NUMBERS];
+    for (size_t i = 0; i < 7; i++) {
+        fill_numbers(part, LAS_ENTRY_NUMBERS);
+        CHECK(las_cursor_next(file, len, cursor, part));
+        CHECK(memcmp(part, table + LAS_ENTRY_NUMBERS * i, sizeof part) == 0);
+    }
+    memcpy(kept, cursor, sizeof cursor);
+    fill_numbers(part, LAS_ENTRY_NUMBERS);
+    for (int again = 0; again < 2; again++) {
+        CHECK(!las_cursor_next(file, len, cursor, part));
+        CHECK(memcmp(cursor, kept, sizeof cursor) == 0 && left_numbers(part, LAS_ENTRY_NUMBERS));
+    }
+
+    /* a cursor made by hand, at a record that is not all there: it ends, and stays as it is */
+    fill_numbers(cursor, LAS_CURSOR_NUMBERS);
+    CHECK(!las_cursor_next(file, len, cursor, part));
+    CHECK(left_numbers(cursor, LAS_CURSOR_NUMBERS) && left_numbers(part, LAS_ENTRY_NUMBERS));
+}
+
 static void test_file_walker(void) {
-    uint64_t row[3], place[LAS_PLACE_NUMBERS], kept[LAS_PLACE_NUMBERS], point[LAS_POINT_NUMBERS];
+    uint64_t row[3], span[2], place[LAS_PLACE_NUMBERS], kept[LAS_PLACE_NUMBERS], point[LAS_POINT_NUMBERS];
     static uint8_t file[700];
     size_t len = make_file(file, sizeof file);
     fill_numbers(row, 3);
@@ -190,6 +226,12 @@ static void test_file_walker(void) {
     CHECK(place[LAS_PLACE_AT] == 440 && place[LAS_PLACE_LEFT] == 3 && place[LAS_PLACE_COUNT] == 3);
     CHECK(place[LAS_PLACE_REFUSED] == LAS_OK && place[LAS_PLACE_VALUE] == 0 && place[LAS_PLACE_RECORD] == 0);
     for (size_t i = 0; i < 3; i++) {
+        /* the record, and in it the extra bytes, before the walker moves on */
+        las_file_record(file, len, place, span);
+        const uint8_t *record = file + span[LAS_SPAN_START];
+        CHECK(spans(span, 440 + 38 * i, 38));
+        las_point_extra(record, 38, (uint32_t)place[LAS_PLACE_FORMAT], span);
+        CHECK(record[span[LAS_SPAN_START]] == i && record[span[LAS_SPAN_START] + 1] == 0xEE && spans(span, 36, 2));
         las_file_next(file, len, place, row, point);
         CHECK(told(row, LAS_OK, 0, 0) && point[LAS_POINT_X] == 1000 + i && (int32_t)point[LAS_POINT_Y] == -1 - (int32_t)i);
         CHECK(point[LAS_POINT_TIME] == double_bits(0.5 + (double)i) && point[LAS_POINT_RED] == 256 * i);
@@ -200,11 +242,15 @@ static void test_file_walker(void) {
     for (int again = 0; again < 2; again++) {
         las_file_next(file, len, place, row, point);
         CHECK(told(row, LAS_REFUSED_INDEX, 3, 0) && memcmp(place, kept, sizeof place) == 0);
+        las_file_record(file, len, place, span);
+        CHECK(spans(span, 554, 0));
     }
 
     /* a place made by hand, outside the file and overlong; what means nothing in it becomes 0 */
     las_file_walker(file, len, UINT64_MAX, place);
     place[LAS_PLACE_AT] = UINT64_MAX;
+    las_file_record(file, len, place, span);
+    CHECK(spans(span, UINT64_MAX, 0));
     las_file_next(file, len, place, row, point);
     CHECK(told(row, LAS_REFUSED_INDEX, 3, 0));
     place[LAS_PLACE_AT] = 0;
@@ -219,6 +265,8 @@ static void test_file_walker(void) {
     for (int again = 0; again < 2; again++) {
         las_file_next(file, len, place, row, point);
         CHECK(told(row, LAS_REFUSED_ALLOWANCE, 1, 2) && memcmp(place, kept, sizeof place) == 0);
+        las_file_record(file, len, place, span);
+        CHECK(spans(span, 0, 0));
     }
     CHECK(left_numbers(point, LAS_POINT_NUMBERS));
 }
@@ -247,6 +295,7 @@ static void test_file_rewrite(void) {
 void test_files(void) {
     test_file_check();
     test_file_parts();
+    test_cursor();
     test_file_walker();
     test_file_rewrite();
 }

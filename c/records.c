@@ -120,6 +120,13 @@ static void test_old_point(void) {
 void test_points(void) {
     test_extended_point();
     test_old_point();
+
+    uint64_t point[LAS_POINT_NUMBERS], none[LAS_POINT_NUMBERS] = {0};
+    fill_numbers(point, LAS_POINT_NUMBERS);
+    las_point_default(point);
+    none[LAS_POINT_FLAGS] = las_flags_default();
+    none[LAS_POINT_SCAN_ANGLE] = las_angle_default();
+    CHECK(memcmp(point, none, sizeof point) == 0);
 }
 
 /* A VLR and an EVLR: heads of 54 and 60 bytes, lengths of 16 and 64 bits. */
@@ -144,6 +151,10 @@ static void test_vlr(bool extended, size_t head) {
     CHECK(memcmp(user, user_id, sizeof user) == 0 && memcmp(text, description, sizeof text) == 0);
     las_vlr_data(dst, sizeof dst, extended, span);
     CHECK(spans(span, head, 4));
+    las_vlr_measure(dst, sizeof dst, extended, row);
+    CHECK(told(row, LAS_OK, head + 4, 0));
+    CHECK(las_vlr_head_size(extended) == head && las_vlr_stated(dst, sizeof dst, extended) == 4);
+    CHECK(las_vlr_stated(dst, 20, extended) == 0);
 
     /* one byte short of its data, and of its head */
     fill_numbers(read, LAS_VLR_NUMBERS);
@@ -156,6 +167,8 @@ static void test_vlr(bool extended, size_t head) {
     CHECK(left_numbers(read, LAS_VLR_NUMBERS) && left_bytes(user, sizeof user) && left_bytes(text, sizeof text));
     las_vlr_data(dst, head + 3, extended, span);
     CHECK(spans(span, head, 0));
+    las_vlr_measure(dst, head + 3, extended, row);
+    CHECK(told(row, LAS_REFUSED_SHORT, head + 4, 0));
 
     fill_bytes(dst, sizeof dst);
     las_vlr_write(extended, numbers, user_id, description, data, 3, nothing, 0, row);
@@ -180,6 +193,13 @@ void test_vlrs(void) {
     memset(evlr + 20, 0xFF, 8);
     las_vlr_read(evlr, sizeof evlr, true, row, read, user, description);
     CHECK(told(row, LAS_REFUSED_SHORT, 0, 0));
+
+    fill_numbers(read, LAS_VLR_NUMBERS);
+    fill_bytes(user, sizeof user);
+    fill_bytes(description, sizeof description);
+    las_vlr_default(read, user, description);
+    CHECK(memcmp(read, none, sizeof none) == 0 && memcmp(user, text, sizeof user) == 0);
+    CHECK(memcmp(description, text, sizeof text) == 0);
 }
 
 const uint8_t guid[16] = {1, 2, 3, 4, 5, 6, 7, 8, 9, 10, 11, 12, 13, 14, 15, 16};
@@ -322,5 +342,44 @@ void test_headers(void) {
         new_header(numbers, minor, 0);
         las_header_write(numbers, guid, system_identifier, software, nothing, 0, dst, sizeof dst, row);
         CHECK(told(row, LAS_OK, sizes[minor], 0));
+        las_header_size(1, minor, row);
+        CHECK(told(row, LAS_OK, sizes[minor], 0));
     }
+    uint64_t row[3], numbers[LAS_HEADER_NUMBERS], expected[LAS_HEADER_NUMBERS] = {0};
+    las_header_size(1, 5, row);
+    CHECK(told(row, LAS_REFUSED_VERSION, 261, 0));
+    las_header_size(2, 4, row);
+    CHECK(told(row, LAS_REFUSED_VERSION, 516, 0));
+
+    /* the default header is that of an empty file */
+    static const uint8_t zeros[32];
+    uint8_t id[16], system[32], generating[32], dst[227];
+    fill_numbers(numbers, LAS_HEADER_NUMBERS);
+    fill_bytes(id, sizeof id);
+    fill_bytes(system, sizeof system);
+    fill_bytes(generating, sizeof generating);
+    las_header_default(numbers, id, system, generating);
+    expected[LAS_HEADER_VERSION_MAJOR] = 1;
+    expected[LAS_HEADER_VERSION_MINOR] = 2;
+    expected[LAS_HEADER_SIZE] = 227;
+    expected[LAS_HEADER_POINT_OFFSET] = 227;
+    expected[LAS_HEADER_RECORD_LENGTH] = 20;
+    CHECK(memcmp(numbers, expected, sizeof numbers) == 0 && memcmp(id, zeros, sizeof id) == 0);
+    CHECK(memcmp(system, zeros, 32) == 0 && memcmp(generating, zeros, 32) == 0);
+    las_header_write(numbers, id, system, generating, nothing, 0, dst, sizeof dst, row);
+    CHECK(told(row, LAS_OK, 227, 0));
+    uint64_t checked[4];
+    las_file_check(dst, sizeof dst, 0, checked);
+    CHECK(checked[LAS_ROW_NUMBER] == LAS_OK);
+
+    /* the format of its points: of its code and record length, and of a code that is none */
+    dst[104] = 3;
+    dst[105] = 36;
+    las_header_point_format(dst, sizeof dst, row);
+    CHECK(told(row, LAS_OK, LAS_FORMAT_TIME | LAS_FORMAT_COLOR | LAS_FORMAT_EXTRA(2), 0));
+    dst[104] = 11;
+    las_header_point_format(dst, sizeof dst, row);
+    CHECK(told(row, LAS_OK, las_format_default(), 0));
+    las_header_point_format(dst, 226, row);
+    CHECK(told(row, LAS_REFUSED_SHORT, 227, 0));
 }

@@ -87,6 +87,7 @@ int main(int argc, char **argv) {
         return 2;
     }
     test_formats();
+    test_layouts();
     test_flags();
     test_angles();
     test_points();

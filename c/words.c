@@ -1,5 +1,6 @@
 /* Formats, flags and angles. */
 #include <math.h>
+#include <string.h>
 
 #include "check.h"
 
@@ -54,6 +55,35 @@ void test_formats(void) {
     /* near infrared without colour has no code */
     las_format_to_u8(LAS_FORMAT_TIME | LAS_FORMAT_EXTENDED | LAS_FORMAT_NIR, row);
     CHECK(told(row, LAS_REFUSED_ATTRIBUTES, 0, 0));
+}
+
+void test_layouts(void) {
+    /* the places of formats 3 and 10 with two extra bytes, by the standard */
+    static const uint64_t old[LAS_LAYOUT_NUMBERS] = {0,  4, 4,  4, 8,  4, 12, 2, 14, 2, 17, 1, 16,
+                                                     1,  18, 2, 20, 8, 28, 6, 34, 0, 34, 0, 34, 2};
+    static const uint64_t large[LAS_LAYOUT_NUMBERS] = {0,  4, 4,  4, 8,  4, 12, 2, 14, 3,  17, 1, 18,
+                                                       2,  20, 2, 22, 8, 30, 6, 36, 2, 38, 29, 67, 2};
+    uint64_t numbers[LAS_LAYOUT_NUMBERS], row[3];
+    fill_numbers(numbers, LAS_LAYOUT_NUMBERS);
+    las_layout(LAS_FORMAT_TIME | LAS_FORMAT_COLOR | LAS_FORMAT_EXTRA(2), numbers);
+    CHECK(memcmp(numbers, old, sizeof old) == 0);
+    las_format_new(10, row);
+    las_layout((uint32_t)row[LAS_ROW_VALUE] | LAS_FORMAT_EXTRA(2), numbers);
+    CHECK(memcmp(numbers, large, sizeof large) == 0);
+    CHECK(numbers[LAS_LAYOUT_START(LAS_FIELD_TIME)] == 22 && numbers[LAS_LAYOUT_LENGTH(LAS_FIELD_TIME)] == 8);
+
+    /* of every format the fields take the record's bytes, without gap or overlap, overlong or not */
+    for (uint32_t bits = 0; bits < 64; bits++) {
+        uint64_t sum = 0, end = 0;
+        las_layout(bits | LAS_FORMAT_EXTRA(65535), numbers);
+        for (int field = LAS_FIELD_X; field <= LAS_FIELD_EXTRA_BYTES; field++) {
+            uint64_t after = numbers[LAS_LAYOUT_START(field)] + numbers[LAS_LAYOUT_LENGTH(field)];
+            sum += numbers[LAS_LAYOUT_LENGTH(field)];
+            end = after > end ? after : end;
+        }
+        las_format_len(bits | LAS_FORMAT_EXTRA(65535), row);
+        CHECK(told(row, LAS_REFUSED_RECORD_LENGTH, sum, 0) && sum == end);
+    }
 }
 
 /* The two bytes of a row's value. */
@@ -141,6 +171,7 @@ void test_angles(void) {
     for (int scaled = -32768; scaled < 32768; scaled++) {
         uint32_t angle = las_angle_scaled((int16_t)scaled);
         int nearest = (6 * scaled + (scaled < 0 ? -500 : 500)) / 1000;
+        CHECK(las_angle_nearest_rank((int16_t)scaled) == nearest);
         int held = nearest < -128 ? -128 : nearest > 127 ? 127 : nearest;
         CHECK(las_angle_to_rank(angle) == held && las_angle_to_scaled(angle) == scaled &&
               las_angle_to_degrees(angle) == (float)scaled * 0.006f);

@@ -124,6 +124,34 @@ void las_format_to_u8(uint32_t format, uint64_t row[3]);
 /* The format with no attribute at all, which is format 0 without extra bytes. */
 uint32_t las_format_default(void);
 
+/* ---- layouts ---- */
+
+/* The fields of a point record. */
+enum {
+    LAS_FIELD_X = 0,
+    LAS_FIELD_Y = 1,
+    LAS_FIELD_Z = 2,
+    LAS_FIELD_INTENSITY = 3,
+    LAS_FIELD_FLAGS = 4,
+    LAS_FIELD_USER_DATA = 5,
+    LAS_FIELD_SCAN_ANGLE = 6,
+    LAS_FIELD_SOURCE_ID = 7,
+    LAS_FIELD_TIME = 8,
+    LAS_FIELD_COLOR = 9,
+    LAS_FIELD_NIR = 10,
+    LAS_FIELD_WAVEFORM = 11,
+    LAS_FIELD_EXTRA_BYTES = 12,
+    LAS_LAYOUT_NUMBERS = 26
+};
+
+/* The places of a field's two numbers in a layout: its first byte in the record, and its bytes. */
+#define LAS_LAYOUT_START(field) (2 * (field))
+#define LAS_LAYOUT_LENGTH(field) (2 * (field) + 1)
+
+/* Where each field of a record of the format stands. A field that the format lacks has no bytes, and starts where the next
+ * one does. The extra bytes end where the record does, longer than 65,535 bytes or not. */
+void las_layout(uint32_t format, uint64_t numbers[26]);
+
 /* ---- flags ---- */
 
 /* The flags of the two bytes of an old record. */
@@ -190,7 +218,10 @@ uint32_t las_angle_rank(int8_t rank);
 /* The angle of a scaled number, in steps of 0.006 degrees. */
 uint32_t las_angle_scaled(int16_t scaled);
 
-/* The rank: of a scaled n the nearest whole number to 6n/1000, halves away from zero, held at -128 and 127. */
+/* The nearest whole number to 6n/1000 of a scaled n, halves away from zero: -197 to 197. */
+int16_t las_angle_nearest_rank(int16_t scaled);
+
+/* The rank: of a scaled number that nearest whole number, held at -128 and 127. */
 int8_t las_angle_to_rank(uint32_t angle);
 
 /* The scaled number: of a rank r 500r/3, its fraction dropped. */
@@ -254,6 +285,9 @@ void las_point_extra(const uint8_t *s, size_t s_len, uint32_t format, uint64_t s
 void las_point_write(const uint64_t numbers[24], const uint8_t *extra, size_t extra_len, uint32_t format, uint8_t *dst,
                      size_t dst_len, uint64_t row[3]);
 
+/* The default point: zeros, in two-byte flags and a rank, with nothing that may be missing. */
+void las_point_default(uint64_t numbers[24]);
+
 /* ---- VLRs and EVLRs ---- */
 
 /* The places of a VLR's or EVLR's numbers, and the bytes of its texts. */
@@ -279,6 +313,19 @@ void las_vlr_data(const uint8_t *s, size_t s_len, bool extended, uint64_t span[2
  * LAS_REFUSED_NO_ROOM, and leaves dst. */
 void las_vlr_write(bool extended, const uint64_t numbers[3], const uint8_t user_id[16], const uint8_t description[32],
                    const uint8_t *data, size_t data_len, uint8_t *dst, size_t dst_len, uint64_t row[3]);
+
+/* How many bytes the VLR, or extended the EVLR, at the start of s takes, head and data, from its stated length alone.
+ * Refuses with LAS_REFUSED_SHORT where they are not all there. */
+void las_vlr_measure(const uint8_t *s, size_t s_len, bool extended, uint64_t row[3]);
+
+/* The bytes of a head: 54 of a VLR, 60 of an EVLR. */
+uint64_t las_vlr_head_size(bool extended);
+
+/* The length that the head at the start of s states; a byte past the end counts as 0. */
+uint64_t las_vlr_stated(const uint8_t *s, size_t s_len, bool extended);
+
+/* The default VLR: zeros, without data. */
+void las_vlr_default(uint64_t numbers[3], uint8_t user_id[16], uint8_t description[32]);
 
 /* ---- headers ---- */
 
@@ -341,6 +388,19 @@ void las_header_points(const uint8_t *s, size_t s_len, uint64_t row[3]);
  * Refuses as las_header_read does, then with LAS_REFUSED_POINT_EXTENT from 2^64 on. */
 void las_header_end_of_points(const uint8_t *s, size_t s_len, uint64_t row[3]);
 
+/* The format of the points as a word, by the header at the front of s: that of its format code, with what its record length
+ * has beyond the code's bytes as extra bytes, 0 where it has less; format 0 without extra bytes where the code is 11 to 127.
+ * Refuses as las_header_read does. */
+void las_header_point_format(const uint8_t *s, size_t s_len, uint64_t row[3]);
+
+/* The bytes of a header of a version, without padding: 227, 235 or 375. Refuses with LAS_REFUSED_VERSION outside 1.0 to
+ * 1.4. */
+void las_header_size(uint8_t major, uint8_t minor, uint64_t row[3]);
+
+/* The default header: version 1.2, format 0, header size and point offset 227, record length 20, all else zeros and missing;
+ * the scale factors too are 0. */
+void las_header_default(uint64_t numbers[51], uint8_t guid[16], uint8_t system[32], uint8_t software[32]);
+
 /* Writes a header of its version, and then the padding, to the front of dst, and leaves what lies past it; the value is
  * the count of bytes. Refuses with LAS_REFUSED_VERSION outside 1.0 to 1.4, then with LAS_REFUSED_NO_ROOM, and leaves dst. */
 void las_header_write(const uint64_t numbers[51], const uint8_t guid[16], const uint8_t system[32],
@@ -362,6 +422,21 @@ enum {
     LAS_PART_GAP = 2, /* bytes between parts or after the last, never none */
     LAS_PART_POINTS = 3,
     LAS_PART_EVLR = 4
+};
+
+/* A cursor over the parts, which the caller keeps between calls. */
+enum {
+    LAS_CURSOR_STAGE = 0, /* what is next: 0 the header, 1 a VLR or the gap after them, 2 the points, 3 the gap after them,
+                             4 an EVLR or the gap after them; above 4 is 4 */
+    LAS_CURSOR_AT = 1,    /* the first byte that is next */
+    LAS_CURSOR_LEFT = 2,  /* how many VLRs or EVLRs are left of the stage */
+    LAS_CURSOR_HEADER_SIZE = 3,
+    LAS_CURSOR_NUMBER_OF_VLRS = 4,
+    LAS_CURSOR_POINT_OFFSET = 5,
+    LAS_CURSOR_END_OF_POINTS = 6,
+    LAS_CURSOR_EVLR_START = 7, /* the end of the points where there are no EVLRs */
+    LAS_CURSOR_NUMBER_OF_EVLRS = 8,
+    LAS_CURSOR_NUMBERS = 9
 };
 
 /* The places of the numbers of a walker's place, which the caller keeps between calls. */
@@ -390,6 +465,14 @@ void las_file_check(const uint8_t *file, size_t file_len, uint64_t allowance, ui
 void las_file_parts(const uint8_t *file, size_t file_len, uint64_t allowance, uint64_t *table, size_t table_len,
                     uint64_t row[3]);
 
+/* The cursor before the first part of the file, for las_cursor_next to tell the parts one by one, without a table; the value
+ * is 0. Refuses as las_file_check does, and leaves the cursor. */
+void las_cursor_start(const uint8_t *file, size_t file_len, uint64_t allowance, uint64_t cursor[9], uint64_t row[3]);
+
+/* Whether there is a part at the cursor: then entry has its LAS_ENTRY_NUMBERS numbers, and the cursor moves on; else, after
+ * the last part, and at a VLR or EVLR that is not all there, both stay as they are. */
+bool las_cursor_next(const uint8_t *file, size_t file_len, uint64_t cursor[9], uint64_t entry[3]);
+
 /* The place of a walker before the first point of the file; where las_file_check refuses the file, a place that holds the
  * refusal. */
 void las_file_walker(const uint8_t *file, size_t file_len, uint64_t allowance, uint64_t place[7]);
@@ -400,6 +483,10 @@ void las_file_walker(const uint8_t *file, size_t file_len, uint64_t allowance, u
  * place made by hand, though, LAS_REFUSED_INDEX sets to 0 what means nothing in it, as bits 6 to 15 of its format word. */
 void las_file_next(const uint8_t *file, size_t file_len, uint64_t place[7], uint64_t row[3], uint64_t numbers[24]);
 
+/* Where the record of the next point is in the file, for las_point_extra and for whoever wants its bytes, and how many bytes
+ * it has: none where las_file_next would refuse. Ask before las_file_next, which moves on. */
+void las_file_record(const uint8_t *file, size_t file_len, const uint64_t place[7], uint64_t span[2]);
+
 /* Writes the file anew to the front of dst, each part from what its reader answers, and leaves what lies past it; the value
  * is the file's length. The bytes are the file's, but that an EVLR start and count of which one is 0 become two zeros.
  * Refuses as las_file_check does, then with LAS_REFUSED_NO_ROOM, and leaves dst. */
@@ -408,18 +495,28 @@ void las_file_rewrite(const uint8_t *file, size_t file_len, uint64_t allowance, 
 
 /* ---- conversion ---- */
 
-/* Converts a run of count records of format 6 to 10, each with so many extra bytes, strictly into the old format of the
- * pair (6 to 1, 7 and 8 to 3, 9 to 4, 10 to 5), at the front of dst, and leaves what lies past it; the value is the count
- * of bytes. An old reader finds in every record the same value in every field, the angle to the nearest whole degree.
- * Refuses with LAS_REFUSED_NO_PAIR; LAS_REFUSED_RECORD_LENGTH where a record of the run is longer than 65,535 bytes, then
- * where a converted one would be; LAS_REFUSED_SHORT; LAS_REFUSED_NO_ROOM; then the first record of which a field does not fit, by its first such field, with
- * LAS_REFUSED_RETURN_NUMBER, _NUMBER_OF_RETURNS, _CLASS, _CHANNEL, _OVERLAP, _NIR or _ANGLE; and leaves dst. */
+/* Whether an old record can show a point to an old reader with the same value in every field, the angle to the nearest whole
+ * degree; the value is 0. Refuses by its first field that does not fit with LAS_REFUSED_RETURN_NUMBER and
+ * LAS_REFUSED_NUMBER_OF_RETURNS above 7; LAS_REFUSED_CLASS above 31; LAS_REFUSED_CHANNEL above 0; LAS_REFUSED_OVERLAP where
+ * overlap is set and the class is not 12, or clear and it is 12 or 28; LAS_REFUSED_NIR where it is not 0; LAS_REFUSED_ANGLE
+ * where the nearest whole degree is no rank. */
+void las_strict_check(const uint64_t numbers[24], uint64_t row[3]);
+
+/* Makes an old point, one with two-byte flags, new in its place: the class is kept, overlap set exactly for class 12, the other
+ * flags moved, the channel 0, the angle scaled, and there is no near infrared. A point with three-byte flags keeps its values. */
+void las_strict_upgraded(uint64_t numbers[24]);
+
+/* Converts a run of count records of format 6 to 10, each with so many extra bytes, strictly into the old format of the pair
+ * (6 to 1, 7 and 8 to 3, 9 to 4, 10 to 5), at the front of dst, and leaves what lies past it; the value is the count of
+ * bytes. Refuses with LAS_REFUSED_NO_PAIR; LAS_REFUSED_RECORD_LENGTH where a record of the run is longer than 65,535 bytes,
+ * then where a converted one would be; LAS_REFUSED_SHORT; LAS_REFUSED_NO_ROOM; and then as las_strict_check does, with the
+ * number of the first record that it refuses; and leaves dst. */
 void las_convert_to_old(const uint8_t *src, size_t src_len, uint8_t format, uint16_t extra, uint64_t count, uint8_t *dst,
                         size_t dst_len, uint64_t row[3]);
 
 /* Converts a run of count records of format 1, 3, 4 or 5, each with so many extra bytes, into the new format of the pair
  * (6, 7, 9, 10), at the front of dst, and leaves what lies past it; the value is the count of bytes. Refuses as
- * las_convert_to_old does, but no record. */
+ * las_convert_to_old does, but no record. Each becomes what las_strict_upgraded says. */
 void las_convert_to_new(const uint8_t *src, size_t src_len, uint8_t format, uint16_t extra, uint64_t count, uint8_t *dst,
                         size_t dst_len, uint64_t row[3]);
 
