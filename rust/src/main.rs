@@ -16,6 +16,8 @@
         clippy::print_stderr
     )
 )]
+// Clippy as Debian packages it asks for `write!` into a string, whose error would have to be dropped each time.
+#![allow(clippy::format_push_string)]
 
 mod cli;
 

@@ -7,6 +7,7 @@ use inscjarol::{Header, LargeFile, Version};
 use std::{
     fs::{self, File},
     io::{BufRead, BufReader, Read, Write},
+    os::unix::fs::{symlink, PermissionsExt},
     path::Path,
     process::{Command, Output, Stdio},
     time::{Duration, Instant},
@@ -214,9 +215,7 @@ fn what_cannot_be_read() {
     }
     // Who may read everything cannot be refused.
     let secret = folder.put("secret.las", &plain(1));
-    let mut permissions = fs::metadata(&secret).unwrap().permissions();
-    std::os::unix::fs::PermissionsExt::set_mode(&mut permissions, 0);
-    fs::set_permissions(&secret, permissions).unwrap();
+    fs::set_permissions(&secret, fs::Permissions::from_mode(0o000)).unwrap();
     if File::open(&secret).is_err() {
         let (_, err, status) = on(&["check"], &secret);
         assert_eq!(status, Some(2));
@@ -379,9 +378,10 @@ fn rewriting() {
     assert_eq!((err.as_str(), status), ("", Some(0)));
     assert_eq!(fs::read(&to).unwrap(), fs::read(&from).unwrap());
 
-    // Onto itself, and through a link, which stays one.
+    // Onto itself, and through a link, which stays one; the mode is kept.
+    fs::set_permissions(&to, fs::Permissions::from_mode(0o640)).unwrap();
     let link = folder.join("link.las");
-    std::os::unix::fs::symlink(&to, &link).unwrap();
+    symlink(&to, &link).unwrap();
     let (_, err, status) = told(&run(&[
         "rewrite".as_ref(),
         to.as_os_str(),
@@ -393,6 +393,7 @@ fn rewriting() {
         .file_type()
         .is_symlink());
     assert_eq!(fs::read(&to).unwrap(), fs::read(&from).unwrap());
+    assert_eq!(fs::metadata(&to).unwrap().permissions().mode() & 0o777, 0o640);
     assert_eq!(folder.names(), ["link.las", "out.las"]);
 }
 

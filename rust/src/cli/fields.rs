@@ -106,7 +106,12 @@ fn whole(number: impl Into<i64>) -> Cell {
 
 /// A float of 32 bits, as the shortest decimal that it is read from.
 fn real(number: f32) -> Cell {
-    Cell::Real(number.to_string().parse().unwrap_or(f64::from(number)))
+    Cell::Real(
+        number
+            .to_string()
+            .parse()
+            .unwrap_or_else(|_| f64::from(number)),
+    )
 }
 
 impl Source {
