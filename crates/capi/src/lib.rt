@@ -5,7 +5,7 @@ ghost use mathlib.Core.Path.{_≡_};
 ghost use mathlib.Core.List.{[], _∷_};
 ghost use Prim.Native.Nat.{_≤_};
 ghost use lib.IntN.{pos};
-ghost use Rattle.angle.specs.Angle.{toRank, toScaled, toDegrees, fromDegrees, sameAngle};
+ghost use Rattle.angle.specs.Angle.{nearestRank, toRank, toScaled, toDegrees, fromDegrees, sameAngle};
 ghost use Rattle.flags.specs.Readings.{returnNumberOf, numberOfReturnsOf, directionOf, syntheticOf, keyPointOf, withheldOf, overlapOf, channelOf, edgeOf, classOf};
 ghost use Rattle.flags.specs.Bytes.{twoBytesOf, threeBytesOf, clearedOf, sameOf, flag};
 ghost use Rattle.format.specs.Codes.{formatOf, codeOf};
@@ -234,6 +234,14 @@ pub extern "C" fn las_angle_scaled(scaled: i16) -> u32
     ensures { λ r. ⌜ r ≡ angleWord (ScanAngle.Scaled scaled) ⌝ }
 {
     words::angle_word(ScanAngle::Scaled(scaled))
+}
+
+// The nearest whole degree to a scaled number, before it is held.
+#[no_mangle]
+pub extern "C" fn las_angle_nearest_rank(scaled: i16) -> i16
+    ensures { λ r. ⌜ r ≡ nearestRank scaled ⌝ }
+{
+    angle::nearest_rank(scaled)
 }
 
 // The rank.

@@ -11,7 +11,8 @@ use Rattle.cursor.specs.declared.Cursor.{Cursor}
 use Rattle.cursor.specs.declared.Step.{Step}
 use Rattle.cursor.specs.Cursor.{stepOf, leftOf, toldBy}
 use Rattle.cursor.specs.Laws.{left-step}
-use Rattle.capi_file.specs.Parts.{kindNumber, numbersOf}
+use Rattle.capi_cursor.specs.Numbers.{kindNumber}
+use Rattle.capi_file.specs.Parts.{numbersOf}
 
 pub length-numbers : (ps : List Part) → length (numbersOf ps) ≡ 3 * length ps
 unfolding numbersOf

@@ -6,19 +6,11 @@ use lib.Dec.{ltb}
 use lib.ListN.{length, drop}
 use Rattle.refusal.specs.declared.Refusal.the-variants.{NoRoom}
 use Rattle.words.specs.Rows.{refusedRow}
-use Rattle.cursor.specs.declared.Kind.{Kind}
-use Rattle.cursor.specs.declared.Kind.the-variants as kind
 use Rattle.cursor.specs.declared.Part.{Part}
 use Rattle.cursor.specs.declared.Started.{Started}
 use Rattle.cursor.specs.declared.Started.the-variants as started
 use Rattle.cursor.specs.Cursor.{leftOf}
-
-abbrev pub kindNumber : Kind → ℕ
-kindNumber kind.Header = 0
-kindNumber kind.Vlr = 1
-kindNumber kind.Gap = 2
-kindNumber kind.Points = 3
-kindNumber kind.Evlr = 4
+use Rattle.capi_cursor.specs.Numbers.{kindNumber}
 
 -- three numbers for each part
 unfoldable pub numbersOf : List Part → List ℕ

@@ -3,7 +3,7 @@ use Prim.Native.Nat.{ℕ, _%_}
 use mathlib.Core.Bool.{cond}
 use mathlib.Core.List.{List, [], _∷_}
 use lib.Dec.{eqb}
-use lib.ListN.{getD}
+use lib.ListN.{getD, length}
 use Rattle.refusal.specs.declared.Row.{Row}
 use Rattle.refusal.specs.Table.{numberOf, valueOf, rowOf}
 use Rattle.words.specs.Words.{formatOfWord, formatWord}
@@ -16,7 +16,7 @@ use Rattle.walker.specs.declared.Place.{Place}
 use Rattle.walker.specs.declared.Walked.{Walked}
 use Rattle.walker.specs.declared.Walked.the-variants as walked
 use Rattle.walker.specs.declared.Took.{Took}
-use Rattle.walker.specs.Walk.{tookOf}
+use Rattle.walker.specs.Walk.{recordOf, tookOf}
 use Rattle.rewrite.specs.declared.Rewrote.{Rewrote}
 use Rattle.rewrite.specs.declared.Rewrote.the-variants as rewrote
 use Rattle.capi_point.specs.Numbers.{numbersOf}
@@ -52,6 +52,10 @@ nextRow s n numbers =
     cond (eqb (getD n 4 0) 0)
     (let took = tookOf s (placeFrom n) in tookRow (took .answer) (took .next) numbers)
     (n, getD n 4 0 ∷ getD n 5 0 ∷ getD n 6 0 ∷ [], numbers)
+
+-- the place and the count of the next record's bytes; a refused walk has none
+unfoldable pub recordPart : List ℕ → List ℕ → List ℕ
+recordPart s n = getD n 1 0 ∷ cond (eqb (getD n 4 0) 0) (length (recordOf s (placeFrom n))) 0 ∷ []
 
 -- a rewriting's row, whose value is the count of bytes, and the destination beside it
 abbrev pub rewroteBy : Rewrote → List ℕ

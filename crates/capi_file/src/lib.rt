@@ -1,6 +1,5 @@
-// Whole files for C and Rust: the file check, the parts, the walker and rewriting. A part crosses the boundary as three numbers,
-// its kind (0 header, 1 VLR, 2 gap, 3 points, 4 EVLR), its first byte and its bytes. A walker's place crosses the boundary as seven numbers that the
-// caller keeps: the format (a format word), the place of the next record, how many records are left, the count, and, where the
+// Whole files for C and Rust: the file check, the parts, the walker and rewriting. A part crosses the boundary as the three numbers
+// of the crate capi_cursor, and a walker's place as seven numbers that the caller keeps: the format (a format word), the place of the next record, how many records are left, the count, and, where the
 // file check refused, number, value and record number; where it did not, three zeros. Rows are those of the crate words.
 ghost use mathlib.Core.Path.{_≡_};
 ghost use mathlib.Core.List.{_++_};
@@ -10,10 +9,9 @@ ghost use Rattle.file.specs.Rules.{checkedOf};
 ghost use Rattle.cursor.specs.Cursor.{leftOf, startedOf};
 ghost use Rattle.rewrite.specs.Rewritten.{rewrittenOf};
 ghost use Rattle.walker.specs.Begin.{beginOf};
-ghost use Rattle.capi_file.specs.Rows.{checkedRow, startRow, placeNumbers, placeFrom, nextRow, rewroteRow};
-ghost use Rattle.capi_file.specs.Parts.{kindNumber, numbersOf, partsRow};
+ghost use Rattle.capi_file.specs.Rows.{checkedRow, startRow, placeNumbers, placeFrom, nextRow, recordPart, rewroteRow};
+ghost use Rattle.capi_file.specs.Parts.{numbersOf, partsRow};
 use cursor::Cursor;
-use cursor::Kind;
 use cursor::Started;
 use file::Checked;
 use refusal::Refusal;
@@ -80,8 +78,9 @@ pub extern "C" fn las_file_walker(file: &[u8], allowance: u64, place: &mut [u64;
     *place = place_numbers(walker::begin(file, allowance));
 }
 
-// The next point as 24 numbers, and the place after it; at the end 27 with the count, and the place stays. Where there is no
-// point the numbers stay as they were.
+// The next point as 24 numbers, and the place after it; a place with a refusal repeats it, and else, at the end, 27 with the
+// count. Where there is no point the numbers stay as they were and the place stays where it is: with a refusal number by number, at
+// 27 in its normal form, where what means nothing in it is 0, as in every place that these calls have written.
 #[no_mangle]
 pub extern "C" fn las_file_next(
     file: &[u8],
@@ -108,6 +107,19 @@ pub extern "C" fn las_file_next(
     }
 }
 
+// Where the next record stands in the file, and how many bytes it has: none where there is no next record.
+#[no_mangle]
+pub extern "C" fn las_file_record(file: &[u8], place: &[u64; 7], part: &mut [u64; 2])
+    ensures { λ _. ⌜ now (part .exit) ≡ recordPart (now (file .entry)) (now (place .entry)) ⌝ }
+{
+    if place[4] != 0 {
+        *part = [place[1], 0];
+        return;
+    }
+    let record = walker::record_at(file, place_from(place));
+    *part = [place[1], record.len() as u64];
+}
+
 // The parts from the cursor on, three numbers each, one after the other.
 fn fill(file: &[u8], c: Cursor, table: &mut [u64])
     requires { ⌜ 3 * length (leftOf (now file) c) ≤ length (now table) ⌝ }
@@ -118,24 +130,11 @@ fn fill(file: &[u8], c: Cursor, table: &mut [u64])
     while step.has {
         let part = step.part;
         let kind = part.kind;
-        table[at] = kind_number(kind);
+        table[at] = capi_cursor::kind_number(kind);
         table[at + 1] = part.start;
         table[at + 2] = part.length;
         at += 3;
         step = cursor::next(file, step.next);
-    }
-}
-
-// A kind's number.
-fn kind_number(kind: Kind) -> u64
-    ensures { λ r. ⌜ r ≡ kindNumber kind ⌝ }
-{
-    match kind {
-        Kind::Header => 0,
-        Kind::Vlr => 1,
-        Kind::Gap => 2,
-        Kind::Points => 3,
-        Kind::Evlr => 4,
     }
 }
 

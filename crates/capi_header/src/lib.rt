@@ -13,10 +13,10 @@ ghost use mathlib.Core.Path.{_≡_};
 ghost use lib.Ieee.{binary64};
 ghost use Rattle.le.specs.Real.{patternOf};
 ghost use mathlib.Core.Bool.{cond};
-ghost use Rattle.header.specs.Header.{noLarge, endOfPoints};
-ghost use Rattle.header.specs.Judged.{readOf};
+ghost use Rattle.header.specs.Header.{noLarge, defaultHeader, endOfPoints};
+ghost use Rattle.header.specs.Judged.{standardOf, readOf};
 ghost use Rattle.header_write.specs.Bytes.{startBack, evlrBack};
-ghost use Rattle.capi_header.specs.Numbers.{hasStart, hasEvlr, hasLarge, numbersOf, readRow, blockOf, paddingPart, pointsRow, endBy, endRow};
+ghost use Rattle.capi_header.specs.Numbers.{hasStart, hasEvlr, hasLarge, numbersOf, lentOf, readRow, blockOf, paddingPart, pointsRow, endBy, endRow, formatRow, sizeRow};
 use header::EndOfPoints;
 use header::Evlr;
 use header::Header;
@@ -24,7 +24,10 @@ use header::HeaderAnswer;
 use header::LargeFile;
 use header::OptionEvlr;
 use header::OptionU64;
+use header::StandardSize;
+use header::Version;
 use le::float;
+use outline::Outline;
 
 // The header at the front of s; the row's value is where it ends with its padding. Refused, it leaves all but the row.
 #[no_mangle]
@@ -95,6 +98,55 @@ pub extern "C" fn las_header_end_of_points(s: &[u8], row: &mut [u64; 3])
         HeaderAnswer::Whole { block: _, end: _ } => tell_end(row, header),
         HeaderAnswer::Refused(refusal) => words::refuse(row, refusal, 0),
     }
+}
+
+// The format of the points, by the header at the front of s, as a format word.
+#[no_mangle]
+pub extern "C" fn las_header_point_format(s: &[u8], row: &mut [u64; 3])
+    ensures { λ _. ⌜ now (row .exit) ≡ formatRow (readOf (now (s .entry))) ⌝ }
+{
+    let read = Header::read_from(s);
+    let answer = read.answer;
+    let header = read.header;
+    match answer {
+        HeaderAnswer::Whole { block: _, end: _ } => {
+            let format = file::point_format(Outline::of(header));
+            words::tell(row, 0, words::format_word(format) as u64, 0)
+        }
+        HeaderAnswer::Refused(refusal) => words::refuse(row, refusal, 0),
+    }
+}
+
+// The bytes of a header of this version without padding.
+#[no_mangle]
+pub extern "C" fn las_header_size(major: u8, minor: u8, row: &mut [u64; 3])
+    ensures { λ _. ⌜ now (row .exit) ≡ sizeRow (standardOf (record { major = major; minor = minor })) ⌝ }
+{
+    let version = Version { major, minor };
+    match version.header_size() {
+        StandardSize::Is(n) => words::tell(row, 0, n as u64, 0),
+        StandardSize::Refused(refusal) => words::refuse(row, refusal, 0),
+    }
+}
+
+// The Rust's default header.
+#[no_mangle]
+pub extern "C" fn las_header_default(
+    numbers: &mut [u64; 51],
+    guid: &mut [u8; 16],
+    system: &mut [u8; 32],
+    software: &mut [u8; 32],
+)
+    ensures { λ _. ⌜ (now (numbers .exit), now (guid .exit), now (system .exit), now (software .exit)) ≡ lentOf defaultHeader ⌝ }
+{
+    let header = Header::default();
+    let id = header.guid;
+    let identifier = header.system_identifier;
+    let generating = header.generating_software;
+    *numbers = numbers_of(header);
+    *guid = id;
+    *system = identifier;
+    *software = generating;
 }
 
 // The row of a header's end of points.

@@ -9,7 +9,7 @@
 // count. Words and rows are those of the crate words.
 ghost use mathlib.Core.Path.{_≡_};
 ghost use Rattle.words.specs.Words.{formatOfWord};
-ghost use Rattle.point.specs.Read.{readOf};
+ghost use Rattle.point.specs.Read.{noPoint, readOf};
 ghost use Rattle.point_write.specs.Write.{writtenOf};
 ghost use Rattle.words.specs.Rows.{writtenRow};
 ghost use Rattle.capi_point.specs.Numbers.{hasTime, timeBitsOf, hasColor, colorOr, hasNir, nirOr, hasWaveform, waveformOr, numbersOf, readRow, extraPart, timeFrom, colorFrom, nirFrom, waveformFrom, maybeWaveformFrom, pointFrom};
@@ -71,6 +71,14 @@ pub extern "C" fn las_point_write(
     }
 }
 
+// The numbers of the Rust's default point.
+#[no_mangle]
+pub extern "C" fn las_point_default(numbers: &mut [u64; 24])
+    ensures { λ _. ⌜ now (numbers .exit) ≡ numbersOf noPoint ⌝ }
+{
+    *numbers = numbers_of(Point::default());
+}
+
 // A point's numbers.
 pub fn numbers_of(point: Point) -> [u64; 24]
     ensures { λ r. ⌜ r ≡ numbersOf point ⌝ }
@@ -116,7 +124,7 @@ pub fn numbers_of(point: Point) -> [u64; 24]
 }
 
 // The point of 24 numbers.
-fn point_from(n: &[u64; 24]) -> Point
+pub fn point_from(n: &[u64; 24]) -> Point
     ensures { λ r. ⌜ r ≡ pointFrom (now (n .entry)) ⌝ }
 {
     Point {

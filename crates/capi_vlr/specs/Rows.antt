@@ -17,10 +17,19 @@ use Rattle.vlr.specs.Vlr.{dataLength, dataOf}
 unfoldable pub numbersOf : Vlr → List ℕ
 numbersOf v = v .reserved ∷ v .«record_id» ∷ dataLength (v .«record_length_after_header») ∷ []
 
--- a read's row, whose value is the bytes of the record in all, then the numbers, the user id and the description, which a refusal leaves
+-- and with them the user id and the description
+abbrev pub lentOf : Vlr → List ℕ × List ℕ × List ℕ
+lentOf v = (numbersOf v, v .«user_id», v .description)
+
+-- an extent's row, whose value is the bytes of the record in all
+abbrev pub extentRow : Extent → List ℕ
+extentRow (extent.Bytes n) = 0 ∷ n ∷ 0 ∷ []
+extentRow (extent.Refused r) = refusedRow r 0
+
+-- a read's row, then the numbers, the user id and the description, which a refusal leaves
 abbrev pub toldOf : Extent → Vlr → List ℕ → List ℕ → List ℕ → List ℕ × List ℕ × List ℕ × List ℕ
-toldOf (extent.Bytes n) v numbers user-id description = (0 ∷ n ∷ 0 ∷ [], numbersOf v, v .«user_id», v .description)
-toldOf (extent.Refused r) v numbers user-id description = (refusedRow r 0, numbers, user-id, description)
+toldOf (extent.Bytes n) v numbers user-id description = (extentRow (extent.Bytes n), numbersOf v, v .«user_id», v .description)
+toldOf (extent.Refused r) v numbers user-id description = (extentRow (extent.Refused r), numbers, user-id, description)
 
 abbrev pub readRow : VlrRead → List ℕ → List ℕ → List ℕ → List ℕ × List ℕ × List ℕ × List ℕ
 readRow r = toldOf (r .answer) (r .vlr)

@@ -3,9 +3,9 @@
 // bits count. Rows are those of the crate words.
 ghost use mathlib.Core.Path.{_≡_};
 ghost use Rattle.vlr.specs.Layout.{headSize};
-ghost use Rattle.vlr.specs.Vlr.{readOf, writtenOf};
+ghost use Rattle.vlr.specs.Vlr.{dataLength, lengthOf, extentOf, noVlr, readOf, writtenOf};
 ghost use Rattle.words.specs.Rows.{writtenRow};
-ghost use Rattle.capi_vlr.specs.Rows.{numbersOf, readRow, dataPart, lengthFrom, vlrFrom};
+ghost use Rattle.capi_vlr.specs.Rows.{numbersOf, lentOf, readRow, extentRow, dataPart, lengthFrom, vlrFrom};
 use lent::Wrote;
 use vlr::Extent;
 use vlr::RecordLength;
@@ -46,7 +46,7 @@ pub extern "C" fn las_vlr_data(s: &[u8], extended: bool, part: &mut [u64; 2])
     ensures { λ _. ⌜ now (part .exit) ≡ dataPart extended (now (s .entry)) ⌝ }
 {
     let data = vlr::data(s, extended);
-    *part = [head_size(extended), data.len() as u64];
+    *part = [las_vlr_head_size(extended), data.len() as u64];
 }
 
 // Writes the record and its data to the front of dst; the row's value is the count of bytes.
@@ -69,11 +69,48 @@ pub extern "C" fn las_vlr_write(
     }
 }
 
+// How many bytes the record at the start of s takes, head and data, without reading the rest of its head.
+#[no_mangle]
+pub extern "C" fn las_vlr_measure(s: &[u8], extended: bool, row: &mut [u64; 3])
+    ensures { λ _. ⌜ now (row .exit) ≡ extentRow (extentOf extended (now (s .entry))) ⌝ }
+{
+    match vlr::measure(s, extended) {
+        Extent::Bytes(n) => words::tell(row, 0, n as u64, 0),
+        Extent::Refused(refusal) => words::refuse(row, refusal, 0),
+    }
+}
+
 // The bytes of a head.
-fn head_size(extended: bool) -> u64
+#[no_mangle]
+pub extern "C" fn las_vlr_head_size(extended: bool) -> u64
     ensures { λ r. ⌜ r ≡ headSize extended ⌝ }
 {
-    if extended { 60 } else { 54 }
+    vlr::head_size(extended) as u64
+}
+
+// The length that the head at the start of s states, of which a byte past the end counts as 0.
+#[no_mangle]
+pub extern "C" fn las_vlr_stated(s: &[u8], extended: bool) -> u64
+    ensures { λ r. ⌜ r ≡ dataLength (lengthOf extended (now (s .entry))) ⌝ }
+{
+    vlr::stated(s, extended).to_u64()
+}
+
+// The Rust's default record.
+#[no_mangle]
+pub extern "C" fn las_vlr_default(
+    numbers: &mut [u64; 3],
+    user_id: &mut [u8; 16],
+    description: &mut [u8; 32],
+)
+    ensures { λ _. ⌜ (now (numbers .exit), now («user_id» .exit), now (description .exit)) ≡ lentOf noVlr ⌝ }
+{
+    let vlr = Vlr::default();
+    *numbers = numbers_of(vlr);
+    let user = vlr.user_id;
+    *user_id = user;
+    let described = vlr.description;
+    *description = described;
 }
 
 // A record's numbers.

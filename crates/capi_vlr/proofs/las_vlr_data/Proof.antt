@@ -7,7 +7,7 @@ use Rattle.capi_vlr.proofs.las_vlr_data.Tie as tie
 
 returns : tie.Need-returns
 unfolding dataPart
-returns c = λ i. c .before .head-size .ensures i ∷ length (c .before .before .«data» .ensures i) ∷ []
+returns c = λ i. c .before .las-vlr-head-size .ensures i ∷ length (c .before .before .«data» .ensures i) ∷ []
 
 pub las-vlr-data-spec : {M : Type 1} → statement M
 las-vlr-data-spec = tie.close (tie.spec

@@ -1,0 +1,174 @@
+/* Strict conversion, and upgrade. */
+#include <string.h>
+
+#include "check.h"
+
+enum { RECORD = 38 }; /* format 7 and two extra bytes */
+
+/* A run of three records of format 7. */
+static void make_run(uint8_t run[3 * RECORD]) {
+    uint64_t row[3], point[LAS_POINT_NUMBERS];
+    memset(point, 0, sizeof point);
+    point[LAS_POINT_FLAGS] = las_flags_three_bytes(0x21, 0x40, 2);
+    point[LAS_POINT_HAS_TIME] = 1;
+    point[LAS_POINT_HAS_COLOR] = 1;
+    for (size_t i = 0; i < 3; i++) {
+        const uint8_t extra[2] = {(uint8_t)i, 0xEE};
+        point[LAS_POINT_X] = i;
+        point[LAS_POINT_SCAN_ANGLE] = las_angle_scaled((int16_t)(249 + i));
+        point[LAS_POINT_BLUE] = 1 + i;
+        las_point_write(point, extra, 2, LAS_FORMAT_TIME | LAS_FORMAT_COLOR | LAS_FORMAT_EXTENDED | LAS_FORMAT_EXTRA(2),
+                        run + RECORD * i, RECORD, row);
+        CHECK(told(row, LAS_OK, RECORD, 0));
+    }
+}
+
+/* Down, and up again. */
+static void test_both_ways(void) {
+    uint64_t row[3], point[LAS_POINT_NUMBERS];
+    uint8_t run[3 * RECORD], old[120], new[120];
+    const uint32_t format = LAS_FORMAT_TIME | LAS_FORMAT_COLOR | LAS_FORMAT_EXTRA(2);
+    fill_numbers(row, 3);
+    fill_bytes(old, sizeof old);
+    fill_bytes(new, sizeof new);
+    make_run(run);
+
+    las_convert_to_old(run, sizeof run, 7, 2, 3, old, sizeof old, row);
+    CHECK(told(row, LAS_OK, 3 * 36, 0) && left_bytes(old + 3 * 36, sizeof old - 3 * 36));
+    for (size_t i = 0; i < 3; i++) {
+        las_point_read(old + 36 * i, 36, format, row, point);
+        CHECK(told(row, LAS_OK, 0, 0) && point[LAS_POINT_X] == i && point[LAS_POINT_BLUE] == 1 + i);
+        CHECK(point[LAS_POINT_FLAGS] == las_flags_two_bytes(0x51, 2));
+        CHECK(point[LAS_POINT_SCAN_ANGLE] == las_angle_rank(i == 0 ? 1 : 2));
+        CHECK(old[36 * i + 34] == i && old[36 * i + 35] == 0xEE);
+    }
+
+    las_convert_to_new(old, 3 * 36, 3, 2, 3, new, sizeof new, row);
+    CHECK(told(row, LAS_OK, 3 * RECORD, 0) && left_bytes(new + 3 * RECORD, sizeof new - 3 * RECORD));
+    uint8_t again[3 * 36];
+    las_convert_to_old(new, 3 * RECORD, 7, 2, 3, again, sizeof again, row);
+    CHECK(told(row, LAS_OK, 3 * 36, 0) && memcmp(again, old, 3 * 36) == 0);
+
+    /* "P old (0x51,0x22): .. upgrade (0x21,0x41,0x02)" */
+    old[14] = 0x51;
+    old[15] = 0x22;
+    las_convert_to_new(old, 36, 3, 2, 1, new, sizeof new, row);
+    CHECK(told(row, LAS_OK, RECORD, 0) && number_at(new + 14, 3) == 0x024121);
+}
+
+/* The refusals of a run before its records, in their order. */
+static void test_refused_runs(void) {
+    uint64_t row[3];
+    uint8_t run[3 * RECORD], dst[120];
+    fill_numbers(row, 3);
+    fill_bytes(dst, sizeof dst);
+    make_run(run);
+    static const uint8_t up[11] = {0, 6, 0, 7, 9, 10, 0, 0, 0, 0, 0}, down[11] = {0, 0, 0, 0, 0, 0, 1, 3, 3, 4, 5};
+    for (unsigned format = 0; format < 256; format++) {
+        las_convert_to_old(run, sizeof run, (uint8_t)format, 65535, 3, dst, 0, row);
+        CHECK(row[LAS_ROW_NUMBER] == (format < 11 && down[format] ? LAS_REFUSED_RECORD_LENGTH : LAS_REFUSED_NO_PAIR));
+        las_convert_to_new(run, sizeof run, (uint8_t)format, 65535, 3, dst, 0, row);
+        CHECK(row[LAS_ROW_NUMBER] == (format < 11 && up[format] ? LAS_REFUSED_RECORD_LENGTH : LAS_REFUSED_NO_PAIR));
+    }
+    las_convert_to_old(run, sizeof run, 3, 2, 3, dst, 0, row);
+    CHECK(told(row, LAS_REFUSED_NO_PAIR, 3, 0));
+    las_convert_to_new(run, sizeof run, 3, 65500, 3, dst, 0, row);
+    CHECK(told(row, LAS_REFUSED_RECORD_LENGTH, 65536, 0));
+    las_convert_to_old(run, sizeof run - 1, 7, 2, 3, dst, 0, row);
+    CHECK(told(row, LAS_REFUSED_SHORT, 3 * RECORD, 0));
+    las_convert_to_old(run, sizeof run, 7, 2, UINT64_MAX, dst, 0, row);
+    CHECK(told(row, LAS_REFUSED_SHORT, 0, 0));
+    las_convert_to_old(run, sizeof run, 7, 2, 3, dst, 3 * 36 - 1, row);
+    CHECK(told(row, LAS_REFUSED_NO_ROOM, 3 * 36, 0) && left_bytes(dst, sizeof dst));
+    las_convert_to_old(nothing, 0, 7, 2, 0, dst, 0, row);
+    CHECK(told(row, LAS_OK, 0, 0));
+}
+
+/* The refusals of a record, its second: "Numbers on each side", strictly. */
+static void test_refused_records(void) {
+    static const struct {
+        uint8_t flags[3];
+        int16_t scaled;
+        uint64_t number, value;
+    } records[] = {
+        {{0x88, 0x10, 40}, 0, LAS_REFUSED_RETURN_NUMBER, 8}, {{0x81, 0, 2}, 0, LAS_REFUSED_NUMBER_OF_RETURNS, 8},
+        {{0x11, 0, 32}, 0, LAS_REFUSED_CLASS, 32},           {{0x11, 0x10, 2}, 0, LAS_REFUSED_CHANNEL, 1},
+        {{0x21, 0x48, 2}, 0, LAS_REFUSED_OVERLAP, 2},        {{0x11, 0, 28}, 0, LAS_REFUSED_OVERLAP, 28},
+        {{0x11, 0, 12}, 0, LAS_REFUSED_OVERLAP, 12},         {{0x11, 0, 2}, 21250, LAS_REFUSED_ANGLE, 21250},
+        {{0x11, 0, 2}, -21417, LAS_REFUSED_ANGLE, 65536 - 21417},
+    };
+    uint64_t row[3];
+    uint8_t run[3 * RECORD], dst[120];
+    fill_numbers(row, 3);
+    fill_bytes(dst, sizeof dst);
+    for (size_t i = 0; i < sizeof records / sizeof records[0]; i++) {
+        make_run(run);
+        memcpy(run + RECORD + 14, records[i].flags, 3);
+        run[RECORD + 18] = (uint8_t)((uint16_t)records[i].scaled & 255);
+        run[RECORD + 19] = (uint8_t)((uint16_t)records[i].scaled >> 8);
+        las_convert_to_old(run, sizeof run, 7, 2, 3, dst, sizeof dst, row);
+        CHECK(told(row, records[i].number, records[i].value, 2) && left_bytes(dst, sizeof dst));
+
+        /* and so says the check of that record alone */
+        uint64_t point[LAS_POINT_NUMBERS];
+        las_point_read(run + RECORD, RECORD, LAS_FORMAT_TIME | LAS_FORMAT_COLOR | LAS_FORMAT_EXTENDED, row, point);
+        las_strict_check(point, row);
+        CHECK(told(row, records[i].number, records[i].value, 0));
+    }
+
+    /* overlap of class 12 fits, and so do the last angles */
+    make_run(run);
+    run[14] = 0x11;
+    run[15] = 0x08;
+    run[16] = 12;
+    las_convert_to_old(run, sizeof run, 7, 2, 1, dst, sizeof dst, row);
+    CHECK(told(row, LAS_OK, 36, 0) && dst[14] == 0x09 && dst[15] == 0x0C);
+    uint64_t point[LAS_POINT_NUMBERS];
+    las_point_default(point);
+    point[LAS_POINT_FLAGS] = las_flags_three_bytes(0x11, 0x08, 12);
+    static const int16_t last[2] = {21249, -21416};
+    for (size_t i = 0; i < 2; i++) {
+        point[LAS_POINT_SCAN_ANGLE] = las_angle_scaled(last[i]);
+        las_strict_check(point, row);
+        CHECK(told(row, LAS_OK, 0, 0));
+    }
+    point[LAS_POINT_HAS_NIR] = 1;
+    point[LAS_POINT_NIR] = 7;
+    las_strict_check(point, row);
+    CHECK(told(row, LAS_REFUSED_NIR, 7, 0));
+
+    /* near infrared, of format 8: two bytes after the colour */
+    uint8_t infrared[38] = {0};
+    infrared[14] = 0x11;
+    las_convert_to_old(infrared, sizeof infrared, 8, 0, 1, dst, sizeof dst, row);
+    CHECK(told(row, LAS_OK, 34, 0));
+    infrared[37] = 1;
+    las_convert_to_old(infrared, sizeof infrared, 8, 0, 1, dst, sizeof dst, row);
+    CHECK(told(row, LAS_REFUSED_NIR, 256, 1));
+}
+
+/* The upgrade of one point. */
+static void test_upgraded(void) {
+    uint64_t point[LAS_POINT_NUMBERS], new[LAS_POINT_NUMBERS];
+    las_point_default(point);
+    point[LAS_POINT_X] = 5;
+    point[LAS_POINT_FLAGS] = las_flags_two_bytes(0x51, 0x22);
+    point[LAS_POINT_SCAN_ANGLE] = las_angle_rank(3);
+    memcpy(new, point, sizeof new);
+    las_strict_upgraded(new);
+    point[LAS_POINT_FLAGS] = las_flags_three_bytes(0x21, 0x41, 0x02);
+    point[LAS_POINT_SCAN_ANGLE] = las_angle_scaled(500);
+    CHECK(memcmp(new, point, sizeof new) == 0);
+    las_strict_upgraded(new);
+    CHECK(memcmp(new, point, sizeof new) == 0);
+    new[LAS_POINT_FLAGS] = las_flags_two_bytes(0x09, 12);
+    las_strict_upgraded(new);
+    CHECK(new[LAS_POINT_FLAGS] == las_flags_three_bytes(0x11, 0x08, 12));
+}
+
+void test_conversion(void) {
+    test_upgraded();
+    test_both_ways();
+    test_refused_runs();
+    test_refused_records();
+}

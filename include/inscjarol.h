@@ -1,0 +1,527 @@
+/* Inscjarol for C: LAS records, files and conversions, by numbers and byte slices.
+ *
+ * Every function is machine-proved. It is total: it ends on every input, touches nothing but what was lent to it, and
+ * answers what its sentence says, or refuses. It allocates nothing, keeps nothing between two calls, and may be called
+ * from any number of threads at once.
+ *
+ * Link with libinscjarol.a, which the script tools/libraries writes into target/staticlib/.
+ *
+ * What is lent. A slice is a pointer and its length, in bytes for uint8_t and in numbers for uint64_t; an array has the
+ * length that its declaration states. No pointer may be NULL, not even that of an empty slice: lend any address, with the
+ * length 0. Memory that a call writes may not overlap anything else that is lent to the same call.
+ *
+ * Rows. An answer that may be a refusal goes into a row of three numbers, which is always written whole. The first,
+ * row[LAS_ROW_NUMBER], is LAS_OK, and then row[LAS_ROW_VALUE] is the result and row[LAS_ROW_RECORD] is 0; or it is one of
+ * the LAS_REFUSED_ numbers below, with the value that stands beside it there and, for a record of a file or of a run, its
+ * number, counted from 1. A call gives the first refusal in the order in which its sentence names them, and a refused call
+ * leaves everything but its row as it was.
+ *
+ * Words. Formats, flags and angles are words, uint32_t. Every word means something, so none is refused.
+ *   A format has the LAS_FORMAT_ bits and, in bits 16 to 31, its count of extra bytes.
+ *   Flags have their two or three bytes from bit 0 up, and how many there are in bits 24 to 31: a 3 there says three,
+ *   anything else two. An old format has two, an extended one three.
+ *   An angle has in bits 16 to 31 a 1 for a scaled one, of 0.006 degrees, which stands in bits 0 to 15, or else a rank, of
+ *   whole degrees, in bits 0 to 7; both are in two's complement.
+ *
+ * Numbers. A point is LAS_POINT_NUMBERS numbers, a header LAS_HEADER_NUMBERS and three texts, the head of a VLR or EVLR
+ * LAS_VLR_NUMBERS and two texts. A signed field stands in two's complement of its own width, as in
+ * (int32_t)point[LAS_POINT_X], and a float as its bits, to be copied into a float or double by memcpy, so that every bit
+ * pattern is kept. Of what may be missing one number says whether it is there. Read, what is missing is zeros; written, its
+ * numbers are ignored, and of a number too wide for its field the low bits count. Texts are bytes and need not end with 0.
+ *
+ * The numbers and rules are those of LAS 1.4 R15. "Allowance" is how many VLRs and EVLRs a call may go through before it
+ * refuses, to bound its time on hostile files; UINT64_MAX takes every file.
+ */
+#ifndef INSCJAROL_H
+#define INSCJAROL_H
+
+#include <stdbool.h>
+#include <stddef.h>
+#include <stdint.h>
+
+#ifdef __cplusplus
+extern "C" {
+#endif
+
+/* ---- rows ---- */
+
+/* The places of a row. LAS_ROW_WHOLE is only in the row of las_file_check. */
+enum {
+    LAS_ROW_NUMBER = 0,
+    LAS_ROW_VALUE = 1,
+    LAS_ROW_RECORD = 2,
+    LAS_ROW_WHOLE = 3
+};
+
+/* The first number of a row; beside each refusal is what its value says. */
+enum {
+    LAS_OK = 0,
+    LAS_REFUSED_SHORT = 1,              /* bytes wanted in all, 0 if over 2^64 - 1 */
+    LAS_REFUSED_SIGNATURE = 2,          /* the four bytes found, as a little-endian number */
+    LAS_REFUSED_VERSION = 3,            /* major * 256 + minor */
+    LAS_REFUSED_HEADER_SIZE = 4,        /* the field */
+    LAS_REFUSED_FORMAT = 5,             /* the format byte */
+    LAS_REFUSED_COMPRESSED = 6,         /* the format byte */
+    LAS_REFUSED_FORMAT_FOR_VERSION = 7, /* the format byte */
+    LAS_REFUSED_RECORD_LENGTH = 8,      /* the field, or for a format its true length */
+    LAS_REFUSED_POINT_OFFSET = 9,       /* the field */
+    LAS_REFUSED_ALLOWANCE = 10,         /* the allowance */
+    LAS_REFUSED_VLR_EXTENT = 11,        /* the length field, 0 if the record's head ends too late */
+    LAS_REFUSED_POINT_EXTENT = 12,      /* the count of points */
+    LAS_REFUSED_EVLR_EXTENT = 13,       /* the length field, 0 if the record's head ends too late */
+    LAS_REFUSED_EVLR_START = 14,        /* the field */
+    LAS_REFUSED_RETURN_NUMBER = 15,     /* the return number */
+    LAS_REFUSED_NUMBER_OF_RETURNS = 16, /* the number of returns */
+    LAS_REFUSED_CLASS = 17,             /* the class */
+    LAS_REFUSED_CHANNEL = 18,           /* the scanner channel */
+    LAS_REFUSED_OVERLAP = 19,           /* the class that the overlap flag does not go with */
+    LAS_REFUSED_NIR = 20,               /* the near infrared */
+    LAS_REFUSED_ANGLE = 21,             /* the scaled angle's 16 bits, unsigned */
+    LAS_REFUSED_NO_ROOM = 22,           /* bytes or entries wanted, 0 if over 2^64 - 1 */
+    LAS_REFUSED_EXTRA_BYTES = 23,       /* the format's count of extra bytes */
+    LAS_REFUSED_VLR_DATA_LENGTH = 24,   /* the stated length */
+    LAS_REFUSED_ATTRIBUTES = 25,        /* 0 */
+    LAS_REFUSED_NO_PAIR = 26,           /* the format byte */
+    LAS_REFUSED_INDEX = 27              /* the count of points */
+};
+
+/* Some of the caller's bytes, as two numbers: where they start in the slice that was lent, and how many there are. */
+enum {
+    LAS_SPAN_START = 0,
+    LAS_SPAN_LENGTH = 1,
+    LAS_SPAN_NUMBERS = 2
+};
+
+/* ---- formats ---- */
+
+/* The bits of a format word. */
+enum {
+    LAS_FORMAT_TIME = 1,
+    LAS_FORMAT_COLOR = 2,
+    LAS_FORMAT_EXTENDED = 4,
+    LAS_FORMAT_WAVEFORM = 8,
+    LAS_FORMAT_NIR = 16,
+    LAS_FORMAT_COMPRESSED = 32
+};
+
+/* A format word's count of extra bytes, n below 65,536, to be added to its bits; and the count of a format word. */
+#define LAS_FORMAT_EXTRA(n) ((uint32_t)(n) << 16)
+#define LAS_FORMAT_EXTRA_OF(format) ((uint32_t)(format) >> 16)
+
+/* The format with a code, 0 to 10, as a word. A code of 128 or more is masked with 0x3f and marked compressed, whatever
+ * remains. Refuses 11 to 127 with LAS_REFUSED_FORMAT. */
+void las_format_new(uint8_t code, uint64_t row[3]);
+
+/* The format with time and with the extended flags and angle; the rest of it stays. */
+uint32_t las_format_extend(uint32_t format);
+
+/* The bytes of a record of the format. Refuses with LAS_REFUSED_RECORD_LENGTH where they are more than 65,535. */
+void las_format_len(uint32_t format, uint64_t row[3]);
+
+/* The format's code. Refuses with LAS_REFUSED_ATTRIBUTES where it is compressed or no code has its attributes. */
+void las_format_to_u8(uint32_t format, uint64_t row[3]);
+
+/* The format with no attribute at all, which is format 0 without extra bytes. */
+uint32_t las_format_default(void);
+
+/* ---- layouts ---- */
+
+/* The fields of a point record. */
+enum {
+    LAS_FIELD_X = 0,
+    LAS_FIELD_Y = 1,
+    LAS_FIELD_Z = 2,
+    LAS_FIELD_INTENSITY = 3,
+    LAS_FIELD_FLAGS = 4,
+    LAS_FIELD_USER_DATA = 5,
+    LAS_FIELD_SCAN_ANGLE = 6,
+    LAS_FIELD_SOURCE_ID = 7,
+    LAS_FIELD_TIME = 8,
+    LAS_FIELD_COLOR = 9,
+    LAS_FIELD_NIR = 10,
+    LAS_FIELD_WAVEFORM = 11,
+    LAS_FIELD_EXTRA_BYTES = 12,
+    LAS_LAYOUT_NUMBERS = 26
+};
+
+/* The places of a field's two numbers in a layout: its first byte in the record, and its bytes. */
+#define LAS_LAYOUT_START(field) (2 * (field))
+#define LAS_LAYOUT_LENGTH(field) (2 * (field) + 1)
+
+/* Where each field of a record of the format stands. A field that the format lacks has no bytes, and starts where the next
+ * one does. The extra bytes end where the record does, longer than 65,535 bytes or not. */
+void las_layout(uint32_t format, uint64_t numbers[26]);
+
+/* ---- flags ---- */
+
+/* The flags of the two bytes of an old record. */
+uint32_t las_flags_two_bytes(uint8_t a, uint8_t b);
+
+/* The flags of the three bytes of an extended record. */
+uint32_t las_flags_three_bytes(uint8_t a, uint8_t b, uint8_t c);
+
+/* The return number: 0 to 7 of two bytes, 0 to 15 of three. */
+uint8_t las_flags_return_number(uint32_t flags);
+
+/* The number of returns: 0 to 7 of two bytes, 0 to 15 of three. */
+uint8_t las_flags_number_of_returns(uint32_t flags);
+
+/* The scan direction: 0 right to left, 1 left to right. */
+uint8_t las_flags_scan_direction(uint32_t flags);
+
+/* Whether the point is synthetic. */
+bool las_flags_is_synthetic(uint32_t flags);
+
+/* Whether the point is a key point. */
+bool las_flags_is_key_point(uint32_t flags);
+
+/* Whether the point is withheld. */
+bool las_flags_is_withheld(uint32_t flags);
+
+/* Whether the point is overlap. Of two bytes it is where the class is 12 or 28, as the Rust crate las reads it; the
+ * standard knows only 12. */
+bool las_flags_is_overlap(uint32_t flags);
+
+/* The scanner channel: 0 of two bytes, 0 to 3 of three. */
+uint8_t las_flags_scanner_channel(uint32_t flags);
+
+/* Whether the point is at the edge of a flight line. */
+bool las_flags_is_edge_of_flight_line(uint32_t flags);
+
+/* The class: 0 to 31 of two bytes, 0 to 255 of three. */
+uint8_t las_flags_class(uint32_t flags);
+
+/* The flags as two bytes, the first in bits 0 to 7 of the value and the second in bits 8 to 15. Two bytes stay as they
+ * are; of three, overlap becomes class 12 whatever the class was, which las_convert_to_old never does. Refuses with
+ * LAS_REFUSED_RETURN_NUMBER and LAS_REFUSED_NUMBER_OF_RETURNS above 7, LAS_REFUSED_CLASS above 31 and LAS_REFUSED_CHANNEL
+ * above 0. */
+void las_flags_to_two_bytes(uint32_t flags, uint64_t row[3]);
+
+/* The flags as three bytes, in a flags word. Three bytes stay as they are; two lose direction and edge, and the second
+ * becomes the class whole, which las_convert_to_new never does. */
+uint32_t las_flags_to_three_bytes(uint32_t flags);
+
+/* The flags with class 12 turned into class 1, in three bytes with the overlap flag set; others stay as they are. */
+uint32_t las_flags_clear_overlap_class(uint32_t flags);
+
+/* Whether both have the same three bytes, by las_flags_to_three_bytes. */
+bool las_flags_eq(uint32_t flags, uint32_t other);
+
+/* Two zero bytes. */
+uint32_t las_flags_default(void);
+
+/* ---- angles ---- */
+
+/* The angle of a rank, in whole degrees. */
+uint32_t las_angle_rank(int8_t rank);
+
+/* The angle of a scaled number, in steps of 0.006 degrees. */
+uint32_t las_angle_scaled(int16_t scaled);
+
+/* The nearest whole number to 6n/1000 of a scaled n, halves away from zero: -197 to 197. */
+int16_t las_angle_nearest_rank(int16_t scaled);
+
+/* The rank: of a scaled number that nearest whole number, held at -128 and 127. */
+int8_t las_angle_to_rank(uint32_t angle);
+
+/* The scaled number: of a rank r 500r/3, its fraction dropped. */
+int16_t las_angle_to_scaled(uint32_t angle);
+
+/* The angle in degrees: a rank as it is, a scaled n times the float nearest to 0.006, rounded once. */
+float las_angle_to_degrees(uint32_t angle);
+
+/* The scaled angle of degrees: the quotient by that float, rounded once, its fraction dropped, held at -32,768 and 32,767;
+ * 0 for a NaN. */
+uint32_t las_angle_from_degrees(float degrees);
+
+/* Whether both are the same angle: of one kind the same number, a rank r and a scaled n where 500r = 3n. */
+bool las_angle_eq(uint32_t angle, uint32_t other);
+
+/* Rank 0. */
+uint32_t las_angle_default(void);
+
+/* ---- points ---- */
+
+/* The places of a point's numbers. */
+enum {
+    LAS_POINT_X = 0, /* int32_t */
+    LAS_POINT_Y = 1,
+    LAS_POINT_Z = 2,
+    LAS_POINT_INTENSITY = 3,
+    LAS_POINT_FLAGS = 4,      /* a flags word */
+    LAS_POINT_SCAN_ANGLE = 5, /* an angle word */
+    LAS_POINT_USER_DATA = 6,
+    LAS_POINT_SOURCE_ID = 7,
+    LAS_POINT_HAS_TIME = 8, /* 1 or 0; written, anything but 0 says yes, here and below */
+    LAS_POINT_TIME = 9,     /* the bits of a double */
+    LAS_POINT_HAS_COLOR = 10,
+    LAS_POINT_RED = 11,
+    LAS_POINT_GREEN = 12,
+    LAS_POINT_BLUE = 13,
+    LAS_POINT_HAS_NIR = 14, /* near infrared 0 is read as missing */
+    LAS_POINT_NIR = 15,
+    LAS_POINT_HAS_WAVEFORM = 16,
+    LAS_POINT_WAVEFORM_INDEX = 17,
+    LAS_POINT_WAVEFORM_OFFSET = 18,
+    LAS_POINT_WAVEFORM_SIZE = 19,
+    LAS_POINT_WAVEFORM_LOCATION = 20, /* the bits of a float, here and below */
+    LAS_POINT_WAVEFORM_X_T = 21,
+    LAS_POINT_WAVEFORM_Y_T = 22,
+    LAS_POINT_WAVEFORM_Z_T = 23,
+    LAS_POINT_NUMBERS = 24
+};
+
+/* The point in the first bytes of s, a record of the format. Refuses with LAS_REFUSED_RECORD_LENGTH where the format is
+ * longer than 65,535 bytes, then with LAS_REFUSED_SHORT, and leaves the numbers. The value is 0. */
+void las_point_read(const uint8_t *s, size_t s_len, uint32_t format, uint64_t row[3], uint64_t numbers[24]);
+
+/* Where the extra bytes of that record are in s; none where las_point_read refuses. */
+void las_point_extra(const uint8_t *s, size_t s_len, uint32_t format, uint64_t span[2]);
+
+/* Writes a point and its extra bytes to the front of dst as a record of the format, and leaves what lies past it; the value
+ * is the count of bytes. What the format has and the point lacks is zeros. Refuses with LAS_REFUSED_RECORD_LENGTH,
+ * LAS_REFUSED_EXTRA_BYTES where there are not as many as the format says, LAS_REFUSED_NO_ROOM and, in formats that are not
+ * extended, as las_flags_to_two_bytes does; and leaves dst. */
+void las_point_write(const uint64_t numbers[24], const uint8_t *extra, size_t extra_len, uint32_t format, uint8_t *dst,
+                     size_t dst_len, uint64_t row[3]);
+
+/* The default point: zeros, in two-byte flags and a rank, with nothing that may be missing. */
+void las_point_default(uint64_t numbers[24]);
+
+/* ---- VLRs and EVLRs ---- */
+
+/* The places of a VLR's or EVLR's numbers, and the bytes of its texts. */
+enum {
+    LAS_VLR_RESERVED = 0,
+    LAS_VLR_RECORD_ID = 1,
+    LAS_VLR_LENGTH = 2, /* the length that the head states, of the data: 16 bits in a VLR, 64 in an EVLR */
+    LAS_VLR_NUMBERS = 3,
+    LAS_VLR_USER_ID_BYTES = 16,
+    LAS_VLR_DESCRIPTION_BYTES = 32
+};
+
+/* The head of the VLR, or extended the EVLR, at the start of s; the value is the record's bytes in all, head and data.
+ * Refuses with LAS_REFUSED_SHORT where they are not all there, and leaves numbers and texts. */
+void las_vlr_read(const uint8_t *s, size_t s_len, bool extended, uint64_t row[3], uint64_t numbers[3], uint8_t user_id[16],
+                  uint8_t description[32]);
+
+/* Where that record's data is in s; none where las_vlr_read refuses. */
+void las_vlr_data(const uint8_t *s, size_t s_len, bool extended, uint64_t span[2]);
+
+/* Writes a VLR, or extended an EVLR, head and data, to the front of dst, and leaves what lies past it; the value is the
+ * count of bytes. Refuses with LAS_REFUSED_VLR_DATA_LENGTH where the data has not the stated length, then with
+ * LAS_REFUSED_NO_ROOM, and leaves dst. */
+void las_vlr_write(bool extended, const uint64_t numbers[3], const uint8_t user_id[16], const uint8_t description[32],
+                   const uint8_t *data, size_t data_len, uint8_t *dst, size_t dst_len, uint64_t row[3]);
+
+/* How many bytes the VLR, or extended the EVLR, at the start of s takes, head and data, from its stated length alone.
+ * Refuses with LAS_REFUSED_SHORT where they are not all there. */
+void las_vlr_measure(const uint8_t *s, size_t s_len, bool extended, uint64_t row[3]);
+
+/* The bytes of a head: 54 of a VLR, 60 of an EVLR. */
+uint64_t las_vlr_head_size(bool extended);
+
+/* The length that the head at the start of s states; a byte past the end counts as 0. */
+uint64_t las_vlr_stated(const uint8_t *s, size_t s_len, bool extended);
+
+/* The default VLR: zeros, without data. */
+void las_vlr_default(uint64_t numbers[3], uint8_t user_id[16], uint8_t description[32]);
+
+/* ---- headers ---- */
+
+/* The places of a header's numbers, and the bytes of its texts. */
+enum {
+    LAS_HEADER_FILE_SOURCE_ID = 0,
+    LAS_HEADER_GLOBAL_ENCODING = 1,
+    LAS_HEADER_VERSION_MAJOR = 2,
+    LAS_HEADER_VERSION_MINOR = 3,
+    LAS_HEADER_CREATION_DAY = 4, /* of the year */
+    LAS_HEADER_CREATION_YEAR = 5,
+    LAS_HEADER_SIZE = 6,
+    LAS_HEADER_POINT_OFFSET = 7, /* the first byte of the points */
+    LAS_HEADER_NUMBER_OF_VLRS = 8,
+    LAS_HEADER_POINT_FORMAT = 9,
+    LAS_HEADER_RECORD_LENGTH = 10,
+    LAS_HEADER_LEGACY_POINTS = 11,
+    LAS_HEADER_LEGACY_BY_RETURN = 12, /* 5 numbers */
+    LAS_HEADER_X_SCALE = 17,          /* the bits of a double, here and below */
+    LAS_HEADER_Y_SCALE = 18,
+    LAS_HEADER_Z_SCALE = 19,
+    LAS_HEADER_X_OFFSET = 20,
+    LAS_HEADER_Y_OFFSET = 21,
+    LAS_HEADER_Z_OFFSET = 22,
+    LAS_HEADER_MAX_X = 23,
+    LAS_HEADER_MIN_X = 24,
+    LAS_HEADER_MAX_Y = 25,
+    LAS_HEADER_MIN_Y = 26,
+    LAS_HEADER_MAX_Z = 27,
+    LAS_HEADER_MIN_Z = 28,
+    LAS_HEADER_HAS_WAVEFORM_START = 29, /* from version 1.3 on; a start of 0 is read as missing */
+    LAS_HEADER_WAVEFORM_START = 30,
+    LAS_HEADER_HAS_EVLRS = 31, /* from version 1.4 on; a start or a count of 0 is read as missing, both */
+    LAS_HEADER_EVLR_START = 32,
+    LAS_HEADER_NUMBER_OF_EVLRS = 33,
+    LAS_HEADER_HAS_LARGE_FILE = 34, /* from version 1.4 on */
+    LAS_HEADER_LARGE_POINTS = 35,
+    LAS_HEADER_LARGE_BY_RETURN = 36, /* 15 numbers */
+    LAS_HEADER_NUMBERS = 51,
+    LAS_HEADER_GUID_BYTES = 16,
+    LAS_HEADER_SYSTEM_BYTES = 32,  /* the system identifier */
+    LAS_HEADER_SOFTWARE_BYTES = 32 /* the generating software */
+};
+
+/* The header at the front of s; the value is where it ends with its padding. Refuses with LAS_REFUSED_SHORT below 4 bytes,
+ * LAS_REFUSED_SIGNATURE, LAS_REFUSED_SHORT below 26 bytes, LAS_REFUSED_VERSION outside 1.0 to 1.4, and LAS_REFUSED_SHORT
+ * below the version's size and then below the header's size field; and leaves numbers and texts. */
+void las_header_read(const uint8_t *s, size_t s_len, uint64_t row[3], uint64_t numbers[51], uint8_t guid[16],
+                     uint8_t system[32], uint8_t software[32]);
+
+/* Where the header's padding is in s, the bytes between the version's size and the size field; 0 and 0 where
+ * las_header_read refuses. */
+void las_header_padding(const uint8_t *s, size_t s_len, uint64_t span[2]);
+
+/* How many points the header at the front of s counts: the legacy count where it is not 0, else the large count, if any.
+ * Refuses as las_header_read does. */
+void las_header_points(const uint8_t *s, size_t s_len, uint64_t row[3]);
+
+/* The first byte after the points, by the header at the front of s: the offset, and the count times the record length.
+ * Refuses as las_header_read does, then with LAS_REFUSED_POINT_EXTENT from 2^64 on. */
+void las_header_end_of_points(const uint8_t *s, size_t s_len, uint64_t row[3]);
+
+/* The format of the points as a word, by the header at the front of s: that of its format code, with what its record length
+ * has beyond the code's bytes as extra bytes, 0 where it has less; format 0 without extra bytes where the code is 11 to 127.
+ * Refuses as las_header_read does. */
+void las_header_point_format(const uint8_t *s, size_t s_len, uint64_t row[3]);
+
+/* The bytes of a header of a version, without padding: 227, 235 or 375. Refuses with LAS_REFUSED_VERSION outside 1.0 to
+ * 1.4. */
+void las_header_size(uint8_t major, uint8_t minor, uint64_t row[3]);
+
+/* The default header: version 1.2, format 0, header size and point offset 227, record length 20, all else zeros and missing;
+ * the scale factors too are 0. */
+void las_header_default(uint64_t numbers[51], uint8_t guid[16], uint8_t system[32], uint8_t software[32]);
+
+/* Writes a header of its version, and then the padding, to the front of dst, and leaves what lies past it; the value is
+ * the count of bytes. Refuses with LAS_REFUSED_VERSION outside 1.0 to 1.4, then with LAS_REFUSED_NO_ROOM, and leaves dst. */
+void las_header_write(const uint64_t numbers[51], const uint8_t guid[16], const uint8_t system[32],
+                      const uint8_t software[32], const uint8_t *padding, size_t padding_len, uint8_t *dst, size_t dst_len,
+                      uint64_t row[3]);
+
+/* ---- files ---- */
+
+/* The places of a part's numbers in a table of parts, and the kinds of parts. */
+enum {
+    LAS_ENTRY_KIND = 0,
+    LAS_ENTRY_START = 1,  /* its first byte in the file */
+    LAS_ENTRY_LENGTH = 2, /* its bytes */
+    LAS_ENTRY_NUMBERS = 3
+};
+enum {
+    LAS_PART_HEADER = 0, /* with its padding */
+    LAS_PART_VLR = 1,
+    LAS_PART_GAP = 2, /* bytes between parts or after the last, never none */
+    LAS_PART_POINTS = 3,
+    LAS_PART_EVLR = 4
+};
+
+/* A cursor over the parts, which the caller keeps between calls. */
+enum {
+    LAS_CURSOR_STAGE = 0, /* what is next: 0 the header, 1 a VLR or the gap after them, 2 the points, 3 the gap after them,
+                             4 an EVLR or the gap after them; above 4 is 4 */
+    LAS_CURSOR_AT = 1,    /* the first byte that is next */
+    LAS_CURSOR_LEFT = 2,  /* how many VLRs or EVLRs are left of the stage */
+    LAS_CURSOR_HEADER_SIZE = 3,
+    LAS_CURSOR_NUMBER_OF_VLRS = 4,
+    LAS_CURSOR_POINT_OFFSET = 5,
+    LAS_CURSOR_END_OF_POINTS = 6,
+    LAS_CURSOR_EVLR_START = 7, /* the end of the points where there are no EVLRs */
+    LAS_CURSOR_NUMBER_OF_EVLRS = 8,
+    LAS_CURSOR_NUMBERS = 9
+};
+
+/* The places of the numbers of a walker's place, which the caller keeps between calls. */
+enum {
+    LAS_PLACE_FORMAT = 0, /* of every point of the file, a format word: the header's record length is its length */
+    LAS_PLACE_AT = 1,     /* the first byte of the next record */
+    LAS_PLACE_LEFT = 2,   /* how many points are left */
+    LAS_PLACE_COUNT = 3,  /* the file's count of points */
+    LAS_PLACE_REFUSED = 4, /* number, value and record number where the file was refused; else three zeros */
+    LAS_PLACE_VALUE = 5,
+    LAS_PLACE_RECORD = 6,
+    LAS_PLACE_NUMBERS = 7
+};
+
+/* Whether the file is accepted; and in row[LAS_ROW_WHOLE], accepted or refused, how many VLRs and EVLRs were found whole. The value of an accepted file is 0. Refuses as las_header_read does, then with
+ * LAS_REFUSED_HEADER_SIZE below the version's; LAS_REFUSED_FORMAT, LAS_REFUSED_COMPRESSED, LAS_REFUSED_FORMAT_FOR_VERSION;
+ * LAS_REFUSED_RECORD_LENGTH below the format's; LAS_REFUSED_POINT_OFFSET before the header's end or beyond the file; for each
+ * VLR LAS_REFUSED_ALLOWANCE, then LAS_REFUSED_VLR_EXTENT past the point offset; LAS_REFUSED_POINT_EXTENT beyond the file;
+ * LAS_REFUSED_EVLR_START before the end of the points or beyond the file; and for each EVLR LAS_REFUSED_ALLOWANCE, then
+ * LAS_REFUSED_EVLR_EXTENT beyond the file. */
+void las_file_check(const uint8_t *file, size_t file_len, uint64_t allowance, uint64_t row[4]);
+
+/* The parts of the file in its order to the front of the table, LAS_ENTRY_NUMBERS numbers each, what lies past them staying;
+ * the value is how many parts there are. They cover the file, byte after byte. Refuses as las_file_check does, then with
+ * LAS_REFUSED_NO_ROOM and the entries wanted, and leaves the table. */
+void las_file_parts(const uint8_t *file, size_t file_len, uint64_t allowance, uint64_t *table, size_t table_len,
+                    uint64_t row[3]);
+
+/* The cursor before the first part of the file, for las_cursor_next to tell the parts one by one, without a table; the value
+ * is 0. Refuses as las_file_check does, and leaves the cursor. */
+void las_cursor_start(const uint8_t *file, size_t file_len, uint64_t allowance, uint64_t cursor[9], uint64_t row[3]);
+
+/* Whether there is a part at the cursor: then entry has its LAS_ENTRY_NUMBERS numbers, and the cursor moves on; else, after
+ * the last part, and at a VLR or EVLR that is not all there, both stay as they are. */
+bool las_cursor_next(const uint8_t *file, size_t file_len, uint64_t cursor[9], uint64_t entry[3]);
+
+/* The place of a walker before the first point of the file; where las_file_check refuses the file, a place that holds the
+ * refusal. */
+void las_file_walker(const uint8_t *file, size_t file_len, uint64_t allowance, uint64_t place[7]);
+
+/* The next point of the file from a place on, and the place after it; the value is 0. Refuses with the refusal that the
+ * place holds; else after the last point, and of a place made by hand whose format is longer than 65,535 bytes or whose next
+ * record lies outside the file, with LAS_REFUSED_INDEX. A refusal leaves the numbers, and the place stays where it is: of a
+ * place made by hand, though, LAS_REFUSED_INDEX sets to 0 what means nothing in it, as bits 6 to 15 of its format word. */
+void las_file_next(const uint8_t *file, size_t file_len, uint64_t place[7], uint64_t row[3], uint64_t numbers[24]);
+
+/* Where the record of the next point is in the file, for las_point_extra and for whoever wants its bytes, and how many bytes
+ * it has: none where las_file_next would refuse. Ask before las_file_next, which moves on. */
+void las_file_record(const uint8_t *file, size_t file_len, const uint64_t place[7], uint64_t span[2]);
+
+/* Writes the file anew to the front of dst, each part from what its reader answers, and leaves what lies past it; the value
+ * is the file's length. The bytes are the file's, but that an EVLR start and count of which one is 0 become two zeros.
+ * Refuses as las_file_check does, then with LAS_REFUSED_NO_ROOM, and leaves dst. */
+void las_file_rewrite(const uint8_t *file, size_t file_len, uint64_t allowance, uint8_t *dst, size_t dst_len,
+                      uint64_t row[3]);
+
+/* ---- conversion ---- */
+
+/* Whether an old record can show a point to an old reader with the same value in every field, the angle to the nearest whole
+ * degree; the value is 0. Refuses by its first field that does not fit with LAS_REFUSED_RETURN_NUMBER and
+ * LAS_REFUSED_NUMBER_OF_RETURNS above 7; LAS_REFUSED_CLASS above 31; LAS_REFUSED_CHANNEL above 0; LAS_REFUSED_OVERLAP where
+ * overlap is set and the class is not 12, or clear and it is 12 or 28; LAS_REFUSED_NIR where it is not 0; LAS_REFUSED_ANGLE
+ * where the nearest whole degree is no rank. */
+void las_strict_check(const uint64_t numbers[24], uint64_t row[3]);
+
+/* Makes an old point, one with two-byte flags, new in its place: the class is kept, overlap set exactly for class 12, the other
+ * flags moved, the channel 0, the angle scaled, and there is no near infrared. A point with three-byte flags keeps its values. */
+void las_strict_upgraded(uint64_t numbers[24]);
+
+/* Converts a run of count records of format 6 to 10, each with so many extra bytes, strictly into the old format of the pair
+ * (6 to 1, 7 and 8 to 3, 9 to 4, 10 to 5), at the front of dst, and leaves what lies past it; the value is the count of
+ * bytes. Refuses with LAS_REFUSED_NO_PAIR; LAS_REFUSED_RECORD_LENGTH where a record of the run is longer than 65,535 bytes,
+ * then where a converted one would be; LAS_REFUSED_SHORT; LAS_REFUSED_NO_ROOM; and then as las_strict_check does, with the
+ * number of the first record that it refuses; and leaves dst. */
+void las_convert_to_old(const uint8_t *src, size_t src_len, uint8_t format, uint16_t extra, uint64_t count, uint8_t *dst,
+                        size_t dst_len, uint64_t row[3]);
+
+/* Converts a run of count records of format 1, 3, 4 or 5, each with so many extra bytes, into the new format of the pair
+ * (6, 7, 9, 10), at the front of dst, and leaves what lies past it; the value is the count of bytes. Refuses as
+ * las_convert_to_old does, but no record. Each becomes what las_strict_upgraded says. */
+void las_convert_to_new(const uint8_t *src, size_t src_len, uint8_t format, uint16_t extra, uint64_t count, uint8_t *dst,
+                        size_t dst_len, uint64_t row[3]);
+
+#ifdef __cplusplus
+}
+#endif
+
+#endif
