@@ -3,13 +3,11 @@ use Prim.Native.Nat.{ℕ, zero, suc, _+_, _-_, _*_, _/_, _≤_, _<_}
 use mathlib.Core.Path.{_≡_, refl, ap, sym, _∙_}
 use mathlib.Core.Bool.{Bool}
 use mathlib.Core.List.{List, _++_}
-use native.Mathlib.Nat.{suc-mul, div-lt-iff-lt-mul, le-div-iff-mul-le}
+use native.Mathlib.Nat.{div-lt-iff-lt-mul, le-div-iff-mul-le}
 use native.Mathlib.Omega.{arith}
-use lib.ListN.{length, take, drop, length-take, length-drop}
+use lib.ListN.{length, take, drop, length-drop}
 use lib.Seq.{sets, drop-drop, length-take-le}
-use Rattle.lent.specs.declared.Wrote.the-variants as wrote
-use Rattle.lent.specs.Front.{frontOf}
-use Rattle.lent.specs.Laws.{front, turn}
+use Rattle.lent.specs.Laws.{laid-turn, less-one}
 use Rattle.format.specs.declared.Format.{Format}
 use Rattle.point.specs.Read.{pointOf}
 use Rattle.strict.specs.declared.Fit.{Fit}
@@ -28,25 +26,11 @@ div-le m n size h g = le-div-iff-mul-le h .0 g
 pub div-lt : (m n size : ℕ) → 0 < m → size / m < n → size < n * m
 div-lt m n size h g = div-lt-iff-lt-mul h .0 g
 
--- the last record but `left - 1`
-pub less-one : (left m : ℕ) → 0 < left → left * m ≡ m + (left - 1) * m
-less-one zero m h = absurd (omega arith)
-less-one (suc k) m h =
-    let e : suc k - 1 ≡ k = omega arith in
-    rw (e, suc-mul) (omega arith)
-
 -- the record at a place has m bytes
 pub record-length : (m : ℕ) (s : List ℕ) (at left : ℕ) → 0 < left → at + left * m ≤ length s → length (take (at + m - at) (drop at s)) ≡ m
 record-length m s at left more ends =
     let e : at + m - at ≡ m = omega arith in
     rw e (length-take-le m (drop at s) (simp length-drop (omega (arith, less-one left m more))))
-
--- a piece of n bytes laid at `to`: the whole keeps its length, and what is still to come makes the same of it
-laid-turn : (d bs rest ys : List ℕ) (to n : ℕ) {w : List ℕ} → length bs ≡ n → to + n ≤ length d → ys ≡ bs ++ drop n (take (length d - to) (drop to d)) → sets d to (bs ++ rest) ≡ w → (length (take to d ++ (ys ++ drop (length d - to) (drop to d))) ≡ length d) × (sets (take to d ++ (ys ++ drop (length d - to) (drop to d))) (to + n) rest ≡ w)
-laid-turn d bs rest ys to n size room laid all =
-    let fits : length bs ≤ length (take (length d - to) (drop to d)) = simp (length-take, length-drop) (omega arith) in
-    let put : (wrote.Bytes (length bs), ys) ≡ frontOf bs (take (length d - to) (drop to d)) = rw (laid, ← size) (sym (front bs _ fits)) in
-    rw (← size) (turn d bs rest ys to (wrote.Bytes (length bs)) (omega arith) put all)
 
 module _ (f : Format) (m : ℕ) (s : List ℕ) where
   judge-step : (number at left : ℕ) → 0 < left → judgeRun f m number left (drop at s) ≡ judgedBy (fitOf (pointOf f (take (at + m - at) (drop at s)))) number (judgeRun f m (number + 1) (left - 1) (drop (at + m) s))

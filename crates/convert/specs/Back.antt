@@ -9,6 +9,7 @@ use borrow.Author.Tests.{le-ltb}
 use lib.ListN.{length, take, drop, length-append, length-drop}
 use lib.Seq.{take-at, drop-at, take-add, take-all, length-take-le}
 use Rattle.le.specs.Le as le
+use Rattle.le.specs.Laws.{bytes-take, bytes-drop}
 use Rattle.flags.specs.Readings.{classOf}
 use Rattle.point.specs.Read.{pointOf}
 use Rattle.strict.specs.declared.Fit.{Fit}
@@ -18,30 +19,30 @@ use Rattle.strict.specs.Shown.{Paired}
 use Rattle.strict.specs.Theorems.{up-and-down}
 use Rattle.convert.specs.declared.Judged.the-variants as judged
 use Rattle.convert.specs.declared.Converted.the-variants as converted
-use Rattle.convert.specs.Pairs.{withExtra}
+use Rattle.convert.specs.Pairs.{formatWith}
 use Rattle.convert.specs.Run.{imageOf, imagesOf, judgedBy, judgeRun, judgedOf, convertedOf, toOldOf, toNewOf}
 use Rattle.convert.specs.Asked.{Sound, TakesRun}
 use Rattle.convert.specs.Demand.{Up, lengthOf, runLength, NotOverlong, Enough, No28, laid}
 use Rattle.convert.specs.Laws.{image-length, images-length, takes-new, goes}
 use Rattle.convert.specs.Told.{planOf, told-run, told-bytes, plan-of-sound, shorter, down-paired, down-told, up-told, way-back}
-use Rattle.convert.specs.Each.{at-zero, at-suc, bytes-take, bytes-drop, written}
+use Rattle.convert.specs.Each.{at-zero, at-suc, written}
 
 module _ {old new : ℕ} (pair : Up old new) (extra : ℕ) where
-  paired : Paired (withExtra new extra) (withExtra old extra)
+  paired : Paired (formatWith new extra) (formatWith old extra)
   paired = down-paired (way-back pair) extra
 
-  up-sound : NotOverlong old new extra → Sound true (planOf (withExtra old extra) (withExtra new extra))
+  up-sound : NotOverlong old new extra → Sound true (planOf (formatWith old extra) (formatWith new extra))
   up-sound long = plan-of-sound true _ _ (long .0) (long .1) (sym (paired .extra)) (λ _. paired .is-new)
 
   -- the upgraded records fit, and their images in the old format are the records themselves
-  run-back : NotOverlong old new extra → (number count : ℕ) (s rest : List ℕ) → le.Bytes s → runLength old extra count ≤ length s → No28 old extra count s → (judgeRun (withExtra new extra) (lengthOf new extra) number count (imagesOf true (planOf (withExtra old extra) (withExtra new extra)) count s ++ rest) ≡ judged.Fits) × (imagesOf false (planOf (withExtra new extra) (withExtra old extra)) count (imagesOf true (planOf (withExtra old extra) (withExtra new extra)) count s ++ rest) ≡ take (runLength old extra count) s)
+  run-back : NotOverlong old new extra → (number count : ℕ) (s rest : List ℕ) → le.Bytes s → runLength old extra count ≤ length s → No28 old extra count s → (judgeRun (formatWith new extra) (lengthOf new extra) number count (imagesOf true (planOf (formatWith old extra) (formatWith new extra)) count s ++ rest) ≡ judged.Fits) × (imagesOf false (planOf (formatWith new extra) (formatWith old extra)) count (imagesOf true (planOf (formatWith old extra) (formatWith new extra)) count s ++ rest) ≡ take (runLength old extra count) s)
   unfolding judgeRun imagesOf imageOf TakesRun
   run-back short number zero s rest bytes there class = (refl, sym (ap (λ (j : ℕ). take j s) (zero-mul (lengthOf old extra))))
   run-back short number (suc c) s rest bytes there class =
       let m = lengthOf old extra in
       let n = lengthOf new extra in
-      let a = withExtra old extra in
-      let b = withExtra new extra in
+      let a = formatWith old extra in
+      let b = formatWith new extra in
       let up = planOf a b in
       let down = planOf b a in
       let sound = up-sound short in
@@ -71,8 +72,8 @@ module _ {old new : ℕ} (pair : Up old new) (extra : ℕ) where
     pub upgrade-answered : lengthOf new extra ≤ 65535 → Enough old new extra count s d → (e : List ℕ) × (toNewOf old extra count s d ≡ (converted.Bytes (runLength new extra count), e))
     unfolding convertedOf judgedOf
     upgrade-answered long enough =
-        let a = withExtra old extra in
-        let b = withExtra new extra in
+        let a = formatWith old extra in
+        let b = formatWith new extra in
         let short : lengthOf old extra ≤ 65535 = omega (arith, shorter b a paired) in (
           imagesOf true (planOf a b) count s ++ drop (runLength new extra count) d,
           up-told pair extra count s d
@@ -84,8 +85,8 @@ module _ {old new : ℕ} (pair : Up old new) (extra : ℕ) where
     pub answered-back : {n : ℕ} {e : List ℕ} → le.Bytes s → toNewOf old extra count s d ≡ (converted.Bytes n, e) → No28 old extra count s → (d′ : List ℕ) → runLength old extra count ≤ length d′ → toOldOf new extra count e d′ ≡ (converted.Bytes (runLength old extra count), laid (runLength old extra count) s d′)
     unfolding convertedOf judgedOf
     answered-back {n} {e} bytes h class d′ room =
-        let a = withExtra old extra in
-        let b = withExtra new extra in
+        let a = formatWith old extra in
+        let b = formatWith new extra in
         let up = planOf a b in
         let ran = told-bytes true a b count s d (sym (up-told pair extra count s d) ∙ h) in
         let short : NotOverlong old new extra = (ran .0, ran .1) in

@@ -5,6 +5,7 @@ use mathlib.Core.List.{List, _++_}
 use lib.ListN.{length, take, drop}
 use Rattle.refusal.specs.declared.Refusal.{Refusal}
 use Rattle.refusal.specs.declared.Refusal.the-variants.{NoPair, RecordLength, Short, NoRoom}
+use Rattle.refusal.specs.Table.{wantedOf}
 use Rattle.format.specs.declared.Field.the-variants.{ExtraBytes}
 use Rattle.format.specs.Fields.{recordBytes}
 use Rattle.flags.specs.Readings.{classOf}
@@ -13,8 +14,7 @@ use Rattle.point.specs.Read.{pointOf, fieldOf}
 use Rattle.strict.specs.declared.Fit.the-variants as fit
 use Rattle.strict.specs.Fit.{fitOf}
 use Rattle.strict.specs.Shown.{Same, Never, Unshown}
-use Rattle.convert.specs.Pairs.{withExtra}
-use Rattle.convert.specs.Run.{wantedOf}
+use Rattle.convert.specs.Pairs.{formatWith}
 
 -- "Pairs down: 6 to 1, 7 to 3, 8 to 3, 9 to 4, 10 to 5"
 pub data Down : ℕ → ℕ → Type 0 where
@@ -33,7 +33,7 @@ pub data Up : ℕ → ℕ → Type 0 where
 
 -- the bytes of a record of the format with this code and `extra` extra bytes, and of `count` of them
 abbrev pub lengthOf : ℕ → ℕ → ℕ
-lengthOf code extra = recordBytes (withExtra code extra)
+lengthOf code extra = recordBytes (formatWith code extra)
 
 abbrev pub runLength : ℕ → ℕ → ℕ → ℕ
 runLength code extra count = count * lengthOf code extra
@@ -44,10 +44,10 @@ nth m k s = take m (drop (k * m) s)
 
 -- what a reader of a format finds in the record after k others, in a run or in a destination, and that record's extra bytes
 abbrev pub pointAt : ℕ → ℕ → ℕ → List ℕ → Point
-pointAt code extra k s = pointOf (withExtra code extra) (nth (lengthOf code extra) k s)
+pointAt code extra k s = pointOf (formatWith code extra) (nth (lengthOf code extra) k s)
 
 abbrev pub extraAt : ℕ → ℕ → ℕ → List ℕ → List ℕ
-extraAt code extra k s = fieldOf (withExtra code extra) ExtraBytes (nth (lengthOf code extra) k s)
+extraAt code extra k s = fieldOf (formatWith code extra) ExtraBytes (nth (lengthOf code extra) k s)
 
 -- "the same value in every field", of the record after k others: `Same`, in strict/specs/Shown.antt, is the list of readings (x, y, z,
 -- intensity, each reading of the flags, overlap as the Rust reads it and as the standard does, the angle, user data, source id, time,
@@ -74,8 +74,8 @@ pub record FirstUnfit (new old extra count k : ℕ) (s : List ℕ) (why : Refusa
   pub within : k < count
   pub earlier-fit : AllFit new extra k s
   pub first-field : fitOf (pointAt new extra k s) ≡ fit.Refused why
-  pub named : Unshown (withExtra old extra) (pointAt new extra k s) why
-  pub not-shown : Never (withExtra old extra) (Same (pointAt new extra k s))
+  pub named : Unshown (formatWith old extra) (pointAt new extra k s) why
+  pub not-shown : Never (formatWith old extra) (Same (pointAt new extra k s))
 
 -- none has class 28
 abbrev pub No28 : ℕ → ℕ → ℕ → List ℕ → Type 0

@@ -2,13 +2,14 @@
 use Prim.Native.Nat.{ℕ, zero, suc, _+_, _*_, _≤_, _<_}
 use mathlib.Core.Path.{_≡_, refl, ap, sym, subst, _∙_}
 use mathlib.Core.Bool.{Bool, false}
-use mathlib.Core.List.{List, [], _∷_, _++_, append-assoc, append-nil}
+use mathlib.Core.List.{List, [], _++_, append-assoc, append-nil}
 use native.Mathlib.Nat.{zero-mul, suc-mul, mul-le-mul-right}
 use native.Mathlib.Omega.{arith}
 use lib.ListN.{length, take, drop, length-drop}
-use lib.Seq.{take-at, drop-at, drop-drop, length-take-le, getD-drop}
+use lib.Seq.{take-at, drop-at, drop-drop, length-take-le}
 use Rattle.refusal.specs.declared.Refusal.{Refusal}
 use Rattle.le.specs.Le as le
+use Rattle.le.specs.Laws.{bytes-take, bytes-drop}
 use Rattle.format.specs.declared.Format.{Format}
 use Rattle.format.specs.declared.Field.the-variants.{ExtraBytes}
 use Rattle.format.specs.Laws.{len-is}
@@ -161,16 +162,6 @@ module _ (up : Bool) (p : Plan) (count : ℕ) (s d : List ℕ) where
           let q = ap (λ (w : Converted × List ℕ). w .0) h in
           let z : _≡_ {A = ℕ} 0 1 = cc in
           absurd (omega arith)
-
--- a part of bytes is bytes
-pub bytes-take : (n : ℕ) (s : List ℕ) → le.Bytes s → le.Bytes (take n s)
-bytes-take zero s b k = omega arith
-bytes-take (suc n) [] b k = b k
-bytes-take (suc n) (x ∷ s) b zero = b 0
-bytes-take (suc n) (x ∷ s) b (suc k) = bytes-take n s (λ j. b (suc j)) k
-
-pub bytes-drop : (n : ℕ) (s : List ℕ) → le.Bytes s → le.Bytes (drop n s)
-bytes-drop n s b k = rw getD-drop (b (n + k))
 
 -- an old reader finds in the place of each image what the record there says
 module _ (p : Plan) (sound : Sound false p) (pair : Paired (p .source) (p .target)) (count : ℕ) (s d : List ℕ) (bytes : le.Bytes s) (fits : judgedOf false p count s (length d) ≡ judged.Fits) where

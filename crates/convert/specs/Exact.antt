@@ -10,12 +10,13 @@ use lib.Dec.{ltb}
 use lib.ListN.{length, drop}
 use Rattle.refusal.specs.declared.Refusal.{Refusal}
 use Rattle.refusal.specs.declared.Refusal.the-variants.{RecordLength, Short, NoRoom}
+use Rattle.refusal.specs.Table.{wantedOf}
 use Rattle.convert.specs.declared.Judged.{Judged}
 use Rattle.convert.specs.declared.Judged.the-variants as judged
 use Rattle.convert.specs.declared.Converted.{Converted}
 use Rattle.convert.specs.declared.Converted.the-variants as converted
-use Rattle.convert.specs.Pairs.{withExtra}
-use Rattle.convert.specs.Run.{wantedOf, imagesOf, judgeRun, judgedOf, ran, convertedOf, toOldOf}
+use Rattle.convert.specs.Pairs.{formatWith}
+use Rattle.convert.specs.Run.{imagesOf, judgeRun, judgedOf, ran, convertedOf, toOldOf}
 use Rattle.convert.specs.Demand.{Down, lengthOf, runLength, NotOverlong, Convertible, RefusedFor, no-pair, source-overlong, target-overlong, source-short, no-room, of-record}
 use Rattle.convert.specs.Laws.{goes}
 use Rattle.convert.specs.Told.{planOf, told, told-run, told-bytes, not-bytes, down-told, pair-or-none, none-told}
@@ -28,17 +29,17 @@ module _ (code extra count : ℕ) (s d : List ℕ) where
     where
       of-pair : (old : ℕ) → Down code old → Convertible code extra count s d
       of-pair old pair =
-          let a = withExtra code extra in
-          let b = withExtra old extra in
+          let a = formatWith code extra in
+          let b = formatWith old extra in
           let run = told-bytes false a b count s d (sym (down-told pair extra count s d) ∙ h) in
           let g = goes false (planOf a b) count s (length d) (written false (planOf a b) count s d (run .2) .fits) in
           record { old = old; pair = pair; not-overlong = (run .0, run .1); enough = (g .there, g .fits); all-fit = fits-each a (lengthOf code extra) 1 count s (g .records) }
 
-  pub then-converted : (c : Convertible code extra count s d) → toOldOf code extra count s d ≡ (converted.Bytes (runLength (c .old) extra count), imagesOf false (planOf (withExtra code extra) (withExtra (c .old) extra)) count s ++ drop (runLength (c .old) extra count) d)
+  pub then-converted : (c : Convertible code extra count s d) → toOldOf code extra count s d ≡ (converted.Bytes (runLength (c .old) extra count), imagesOf false (planOf (formatWith code extra) (formatWith (c .old) extra)) count s ++ drop (runLength (c .old) extra count) d)
   unfolding convertedOf judgedOf
   then-converted c =
-      let a = withExtra code extra in
-      let b = withExtra (c .old) extra in
+      let a = formatWith code extra in
+      let b = formatWith (c .old) extra in
       down-told (c .pair) extra count s d
       ∙ told-run false a b count s d (c .not-overlong .0) (c .not-overlong .1)
       ∙ rw (le-ltb (length s) (runLength code extra count) (c .enough .0), le-ltb (length d) (runLength (c .old) extra count) (c .enough .1), all-fit a (lengthOf code extra) 1 count s (c .all-fit))
@@ -53,26 +54,26 @@ module _ (code extra count : ℕ) (s d : List ℕ) where
 
   -- of a pair: the tests in their order
   module _ {old : ℕ} (pair : Down code old) {r : Refusal} {j : ℕ} {e : List ℕ} where
-    record-refused : NotOverlong code old extra → runLength code extra count ≤ length s → runLength old extra count ≤ length d → (w : Judged) → judgeRun (withExtra code extra) (lengthOf code extra) 1 count s ≡ w → ran w (imagesOf false (planOf (withExtra code extra) (withExtra old extra)) count s) (runLength old extra count) d ≡ (converted.Refused r j, e) → RefusedFor code extra count s d r j × (e ≡ d)
+    record-refused : NotOverlong code old extra → runLength code extra count ≤ length s → runLength old extra count ≤ length d → (w : Judged) → judgeRun (formatWith code extra) (lengthOf code extra) 1 count s ≡ w → ran w (imagesOf false (planOf (formatWith code extra) (formatWith old extra)) count s) (runLength old extra count) d ≡ (converted.Refused r j, e) → RefusedFor code extra count s d r j × (e ≡ d)
     record-refused long there room judged.Fits f h = not-bytes r j _ e _ (sym h)
     record-refused long there room (judged.Refused why i) f h =
-        let w = first-refused (withExtra code extra) (lengthOf code extra) 1 count s f in
+        let w = first-refused (formatWith code extra) (lengthOf code extra) 1 count s f in
         let number : suc (w .others) ≡ i = omega (arith, w .numbered) in
         same-refusal (subst (λ (k : ℕ). RefusedFor code extra count s d why k) number (of-record pair long (there, room) (w .within) (w .earlier) (w .refused))) h
 
-    run-refused : NotOverlong code old extra → convertedOf false (planOf (withExtra code extra) (withExtra old extra)) count s d ≡ (converted.Refused r j, e) → RefusedFor code extra count s d r j × (e ≡ d)
+    run-refused : NotOverlong code old extra → convertedOf false (planOf (formatWith code extra) (formatWith old extra)) count s d ≡ (converted.Refused r j, e) → RefusedFor code extra count s d r j × (e ≡ d)
     unfolding convertedOf judgedOf
     run-refused long = go (ltb (length s) (runLength code extra count)) (ltb (length d) (runLength old extra count)) refl refl
       where
-        go : (x y : Bool) → ltb (length s) (runLength code extra count) ≡ x → ltb (length d) (runLength old extra count) ≡ y → ran (cond x (judged.Refused (Short (wantedOf (runLength code extra count))) 0) (cond y (judged.Refused (NoRoom (wantedOf (runLength old extra count))) 0) (judgeRun (withExtra code extra) (lengthOf code extra) 1 count s))) (imagesOf false (planOf (withExtra code extra) (withExtra old extra)) count s) (runLength old extra count) d ≡ (converted.Refused r j, e) → RefusedFor code extra count s d r j × (e ≡ d)
+        go : (x y : Bool) → ltb (length s) (runLength code extra count) ≡ x → ltb (length d) (runLength old extra count) ≡ y → ran (cond x (judged.Refused (Short (wantedOf (runLength code extra count))) 0) (cond y (judged.Refused (NoRoom (wantedOf (runLength old extra count))) 0) (judgeRun (formatWith code extra) (lengthOf code extra) 1 count s))) (imagesOf false (planOf (formatWith code extra) (formatWith old extra)) count s) (runLength old extra count) d ≡ (converted.Refused r j, e) → RefusedFor code extra count s d r j × (e ≡ d)
         go true y f g h = same-refusal (source-short pair long (ltb-true _ _ f)) h
         go false true f g h = same-refusal (no-room pair long (ltb-false _ _ f) (ltb-true _ _ g)) h
         go false false f g h = record-refused long (ltb-false _ _ f) (ltb-false _ _ g) _ refl h
 
-    pair-refused : told false (withExtra code extra) (withExtra old extra) count s d ≡ (converted.Refused r j, e) → RefusedFor code extra count s d r j × (e ≡ d)
+    pair-refused : told false (formatWith code extra) (formatWith old extra) count s d ≡ (converted.Refused r j, e) → RefusedFor code extra count s d r j × (e ≡ d)
     pair-refused = go (ltb 65535 (lengthOf code extra)) (ltb 65535 (lengthOf old extra)) refl refl
       where
-        go : (x y : Bool) → ltb 65535 (lengthOf code extra) ≡ x → ltb 65535 (lengthOf old extra) ≡ y → cond x (converted.Refused (RecordLength (lengthOf code extra)) 0, d) (cond y (converted.Refused (RecordLength (lengthOf old extra)) 0, d) (convertedOf false (planOf (withExtra code extra) (withExtra old extra)) count s d)) ≡ (converted.Refused r j, e) → RefusedFor code extra count s d r j × (e ≡ d)
+        go : (x y : Bool) → ltb 65535 (lengthOf code extra) ≡ x → ltb 65535 (lengthOf old extra) ≡ y → cond x (converted.Refused (RecordLength (lengthOf code extra)) 0, d) (cond y (converted.Refused (RecordLength (lengthOf old extra)) 0, d) (convertedOf false (planOf (formatWith code extra) (formatWith old extra)) count s d)) ≡ (converted.Refused r j, e) → RefusedFor code extra count s d r j × (e ≡ d)
         go true y f g h = same-refusal (source-overlong pair (ltb-true _ _ f)) h
         go false true f g h = same-refusal (target-overlong pair (ltb-false _ _ f) (ltb-true _ _ g)) h
         go false false f g h = run-refused (ltb-false _ _ f, ltb-false _ _ g) h
@@ -91,14 +92,14 @@ module _ (code extra count : ℕ) (s d : List ℕ) where
   then-refused (target-overlong {old} pair h l) = down-told pair extra count s d ∙ rw (le-ltb 65535 (lengthOf code extra) h, lt-ltb 65535 (lengthOf old extra) l)
   then-refused (source-short {old} pair long l) =
       down-told pair extra count s d
-      ∙ told-run false (withExtra code extra) (withExtra old extra) count s d (long .0) (long .1)
+      ∙ told-run false (formatWith code extra) (formatWith old extra) count s d (long .0) (long .1)
       ∙ rw (lt-ltb (length s) (runLength code extra count) l)
   then-refused (no-room {old} pair long there l) =
       down-told pair extra count s d
-      ∙ told-run false (withExtra code extra) (withExtra old extra) count s d (long .0) (long .1)
+      ∙ told-run false (formatWith code extra) (formatWith old extra) count s d (long .0) (long .1)
       ∙ rw (le-ltb (length s) (runLength code extra count) there, lt-ltb (length d) (runLength old extra count) l)
   then-refused (of-record {old} {k} {why} pair long enough within before refused) =
       let number : 1 + k ≡ suc k = omega arith in
       down-told pair extra count s d
-      ∙ told-run false (withExtra code extra) (withExtra old extra) count s d (long .0) (long .1)
-      ∙ rw (le-ltb (length s) (runLength code extra count) (enough .0), le-ltb (length d) (runLength old extra count) (enough .1), refused-at (withExtra code extra) (lengthOf code extra) 1 count s why k within before refused, number)
+      ∙ told-run false (formatWith code extra) (formatWith old extra) count s d (long .0) (long .1)
+      ∙ rw (le-ltb (length s) (runLength code extra count) (enough .0), le-ltb (length d) (runLength old extra count) (enough .1), refused-at (formatWith code extra) (lengthOf code extra) 1 count s why k within before refused, number)

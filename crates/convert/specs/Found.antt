@@ -9,7 +9,7 @@ use Rattle.refusal.specs.declared.Refusal.{Refusal}
 use Rattle.le.specs.Le as le
 use Rattle.strict.specs.Theorems.{refused-only-then, no-old-record-shows-it}
 use Rattle.convert.specs.declared.Converted.the-variants as converted
-use Rattle.convert.specs.Pairs.{withExtra}
+use Rattle.convert.specs.Pairs.{formatWith}
 use Rattle.convert.specs.Run.{imagesOf, toOldOf}
 use Rattle.convert.specs.Asked.{Sound}
 use Rattle.convert.specs.Demand.{Down, runLength, SameValues, FirstUnfit, RefusedFor, of-record}
@@ -19,12 +19,12 @@ use Rattle.convert.specs.Each.{Written, written, each-shown}
 
 module _ {new old : ℕ} (pair : Down new old) (extra count : ℕ) (s d : List ℕ) where
   module _ {n : ℕ} {e : List ℕ} (h : toOldOf new extra count s d ≡ (converted.Bytes n, e)) where
-    down-sound : Sound false (planOf (withExtra new extra) (withExtra old extra))
+    down-sound : Sound false (planOf (formatWith new extra) (formatWith old extra))
     down-sound =
         let run = told-bytes false _ _ count s d (sym (down-told pair extra count s d) ∙ h) in
         plan-of-sound false _ _ (run .0) (run .1) (down-paired pair extra .extra) not-up
 
-    down-written : Written false (planOf (withExtra new extra) (withExtra old extra)) count s d n e
+    down-written : Written false (planOf (formatWith new extra) (formatWith old extra)) count s d n e
     down-written = written false _ count s d (told-bytes false _ _ count s d (sym (down-told pair extra count s d) ∙ h) .2)
 
     pub same-values : le.Bytes s → (k : ℕ) → k < count → SameValues new old extra k s e
@@ -36,7 +36,7 @@ module _ {new old : ℕ} (pair : Down new old) (extra count : ℕ) (s d : List �
     pub rest-stays : (n ≡ runLength old extra count) × (drop n e ≡ drop n d)
     rest-stays =
         let w = down-written in
-        let plan = planOf (withExtra new extra) (withExtra old extra) in
+        let plan = planOf (formatWith new extra) (formatWith old extra) in
         let g = goes false plan count s (length d) (w .fits) in
         let size = images-length false plan down-sound count s (takes-all false plan down-sound count s (g .records)) (g .there) in
         let past : drop (runLength old extra count) e ≡ drop (runLength old extra count) d = ap (drop (runLength old extra count)) (w .stands) ∙ drop-at (imagesOf false plan count s) _ _ size in

@@ -6,7 +6,7 @@ use mathlib.Core.Bool.{Bool, true, false, cond}
 use mathlib.Core.List.{List, _++_}
 use native.Mathlib.Nat.{zero-mul, suc-mul}
 use native.Mathlib.Omega.{arith}
-use borrow.Author.Tests.{le-ltb, lt-ltb, ltb-false}
+use borrow.Author.Tests.{le-ltb, ltb-false}
 use lib.Dec.{eqb, leb, ltb}
 use lib.ListN.{length, take, drop, length-append, length-drop}
 use lib.Seq.{length-take-le}
@@ -17,8 +17,7 @@ use Rattle.format.specs.declared.Format.{Format}
 use Rattle.format.specs.declared.FormatLen.{FormatLen}
 use Rattle.format.specs.declared.FormatLen.the-variants as len
 use Rattle.format.specs.declared.Field.the-variants.{ExtraBytes}
-use Rattle.format.specs.declared.NewFormat.the-variants as new
-use Rattle.format.specs.Codes.{coded, formatOf}
+use Rattle.format.specs.Codes.{coded}
 use Rattle.format.specs.Fields.{restOf, sizes, lenOf}
 use Rattle.format.specs.Laws.{record-sum, rest-sum, len-is}
 use Rattle.point.specs.declared.Point.{Point}
@@ -37,7 +36,7 @@ use Rattle.convert.specs.declared.Plan.{Plan}
 use Rattle.convert.specs.declared.Planned.the-variants as planned
 use Rattle.convert.specs.declared.Judged.{Judged}
 use Rattle.convert.specs.declared.Judged.the-variants as judged
-use Rattle.convert.specs.Pairs.{withExtra, pairOf, oldPair, newPair, lengthsOf, plannedBy}
+use Rattle.convert.specs.Pairs.{formatWith, pairOf, oldPair, newPair, lengthsOf, plannedBy}
 use Rattle.convert.specs.Run.{turnedOf, imageOf, imagesOf, judgedBy, judgeRun, recordsOf, judgedOf}
 use Rattle.convert.specs.Asked.{Sound, Takes, TakesRun}
 
@@ -52,7 +51,7 @@ either Q true x y h k = h
 either Q false x y h k = k
 
 pair-sound : (up : Bool) (source target extra : ℕ) → (up ≡ true → leb 6 target ≡ true) → PairSound up (pairOf source target extra)
-unfolding withExtra coded
+unfolding formatWith coded
 pair-sound up source target extra h = (refl, h)
 
 pub not-up : {A : Type 0} → _≡_ {A = Bool} false true → A
@@ -81,11 +80,6 @@ plan-sound up format (Formats a b) p h = go (lenOf a) (lenOf b) refl refl
     go (len.Is m) (len.Refused r) f g e = let z : _≡_ {A = ℕ} 0 1 = cc in absurd (omega arith)
     go (len.Refused r) y f g e = let z : _≡_ {A = ℕ} 0 1 = cc in absurd (omega arith)
 plan-sound up format None p h = λ e. let z : _≡_ {A = ℕ} 0 1 = cc in absurd (omega arith)
-
--- a code of the standard has a format
-pub code-known : (n : ℕ) → n < 11 → formatOf n ≡ new.Is (coded n false)
-unfolding formatOf
-code-known n h = rw (lt-ltb _ _ h)
 
 -- a record has bytes
 pub some-bytes : (f : Format) (n : ℕ) → lenOf f ≡ len.Is n → 0 < n

@@ -6,6 +6,7 @@ use Rattle.refusal.specs.declared.Refusal.the-variants.{NoPair}
 use Rattle.format.specs.declared.Format.{Format}
 use Rattle.format.specs.declared.FormatLen.{FormatLen}
 use Rattle.format.specs.declared.FormatLen.the-variants as len
+use Rattle.format.specs.Format.{withExtra}
 use Rattle.format.specs.Codes.{coded}
 use Rattle.format.specs.Fields.{lenOf}
 use Rattle.convert.specs.declared.Pair.{Pair}
@@ -14,22 +15,12 @@ use Rattle.convert.specs.declared.Planned.{Planned}
 use Rattle.convert.specs.declared.Planned.the-variants.{Is, Refused}
 
 -- the format of a code of the standard, with extra bytes
-unfoldable pub withExtra : ℕ → ℕ → Format
-withExtra n extra =
-    let f = coded n false in
-    record {
-      «has_gps_time» = f .«has_gps_time»;
-      «has_color» = f .«has_color»;
-      «is_extended» = f .«is_extended»;
-      «has_waveform» = f .«has_waveform»;
-      «has_nir» = f .«has_nir»;
-      «extra_bytes» = extra;
-      «is_compressed» = f .«is_compressed»;
-    }
+unfoldable pub formatWith : ℕ → ℕ → Format
+formatWith code extra = withExtra extra (coded code false)
 
 -- "Extra bytes are kept": both sides have as many
 abbrev pub pairOf : ℕ → ℕ → ℕ → Pair
-pairOf source target extra = Formats (withExtra source extra) (withExtra target extra)
+pairOf source target extra = Formats (formatWith source extra) (formatWith target extra)
 
 -- "Pairs down: 6 to 1, 7 to 3, 8 to 3, 9 to 4, 10 to 5"
 unfoldable pub oldPair : ℕ → ℕ → Pair

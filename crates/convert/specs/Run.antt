@@ -6,6 +6,7 @@ use mathlib.Core.List.{List, [], _++_}
 use lib.Dec.{ltb}
 use lib.ListN.{length, take, drop}
 use Rattle.refusal.specs.declared.Refusal.the-variants.{Short, NoRoom}
+use Rattle.refusal.specs.Table.{wantedOf}
 use Rattle.format.specs.declared.Format.{Format}
 use Rattle.format.specs.declared.Field.the-variants.{ExtraBytes}
 use Rattle.point.specs.declared.Point.{Point}
@@ -23,10 +24,6 @@ use Rattle.convert.specs.declared.Plan.{Plan}
 use Rattle.convert.specs.declared.Planned.{Planned}
 use Rattle.convert.specs.declared.Planned.the-variants as planned
 use Rattle.convert.specs.Pairs.{oldPair, newPair, plannedBy}
-
--- "bytes wanted in all, 0 if over 2^64−1"
-unfoldable pub wantedOf : ℕ → ℕ
-wantedOf n = cond (ltb 18446744073709551615 n) 0 n
 
 -- a point on its way down is as it is, on its way up it is upgraded
 abbrev pub turnedOf : Bool → Point → Point

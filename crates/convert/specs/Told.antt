@@ -19,7 +19,7 @@ use Rattle.convert.specs.declared.Pair.the-variants.{Formats}
 use Rattle.convert.specs.declared.Plan.{Plan}
 use Rattle.convert.specs.declared.Converted.{Converted}
 use Rattle.convert.specs.declared.Converted.the-variants as converted
-use Rattle.convert.specs.Pairs.{withExtra, oldPair, newPair, lengthsOf, plannedBy}
+use Rattle.convert.specs.Pairs.{formatWith, oldPair, newPair, lengthsOf, plannedBy}
 use Rattle.convert.specs.Run.{convertedOf, convertedBy, toOldOf, toNewOf}
 use Rattle.convert.specs.Asked.{Sound}
 use Rattle.convert.specs.Demand.{Down, from-6, from-7, from-8, from-9, from-10, Up, from-1, from-3, from-4, from-5}
@@ -74,12 +74,12 @@ pub shorter : (new old : Format) → Paired new old → recordBytes old ≤ reco
 shorter new old pair = rw (record-sum new, record-sum old, pair .is-new, pair .is-old, pair .time, pair .color, pair .waveform, pair .no-nir, pair .extra) (omega arith)
 
 -- the two formats of a pair of codes
-pair-paired : (new old extra : ℕ) → coded new false .«is_extended» ≡ true → coded old false .«is_extended» ≡ false → coded new false .«has_gps_time» ≡ coded old false .«has_gps_time» → coded new false .«has_color» ≡ coded old false .«has_color» → coded new false .«has_waveform» ≡ coded old false .«has_waveform» → coded old false .«has_nir» ≡ false → Paired (withExtra new extra) (withExtra old extra)
-unfolding withExtra
+pair-paired : (new old extra : ℕ) → coded new false .«is_extended» ≡ true → coded old false .«is_extended» ≡ false → coded new false .«has_gps_time» ≡ coded old false .«has_gps_time» → coded new false .«has_color» ≡ coded old false .«has_color» → coded new false .«has_waveform» ≡ coded old false .«has_waveform» → coded old false .«has_nir» ≡ false → Paired (formatWith new extra) (formatWith old extra)
+unfolding formatWith
 pair-paired new old extra is-new is-old time color waveform nir =
     record { is-new = is-new; is-old = is-old; time = time; color = color; waveform = waveform; no-nir = nir; extra = refl }
 
-pub down-paired : {new old : ℕ} → Down new old → (extra : ℕ) → Paired (withExtra new extra) (withExtra old extra)
+pub down-paired : {new old : ℕ} → Down new old → (extra : ℕ) → Paired (formatWith new extra) (formatWith old extra)
 unfolding coded isIn
 down-paired from-6 extra = pair-paired 6 1 extra refl refl refl refl refl refl
 down-paired from-7 extra = pair-paired 7 3 extra refl refl refl refl refl refl
@@ -88,20 +88,20 @@ down-paired from-9 extra = pair-paired 9 4 extra refl refl refl refl refl refl
 down-paired from-10 extra = pair-paired 10 5 extra refl refl refl refl refl refl
 
 -- what a run of a pair is told, on the way down and up
-pub down-told : {new old : ℕ} → Down new old → (extra count : ℕ) (s d : List ℕ) → toOldOf new extra count s d ≡ told false (withExtra new extra) (withExtra old extra) count s d
+pub down-told : {new old : ℕ} → Down new old → (extra count : ℕ) (s d : List ℕ) → toOldOf new extra count s d ≡ told false (formatWith new extra) (formatWith old extra) count s d
 unfolding toOldOf oldPair
-down-told from-6 extra count s d = planned-told false (withExtra 6 extra) (withExtra 1 extra) count s d 6
-down-told from-7 extra count s d = planned-told false (withExtra 7 extra) (withExtra 3 extra) count s d 7
-down-told from-8 extra count s d = planned-told false (withExtra 8 extra) (withExtra 3 extra) count s d 8
-down-told from-9 extra count s d = planned-told false (withExtra 9 extra) (withExtra 4 extra) count s d 9
-down-told from-10 extra count s d = planned-told false (withExtra 10 extra) (withExtra 5 extra) count s d 10
+down-told from-6 extra count s d = planned-told false (formatWith 6 extra) (formatWith 1 extra) count s d 6
+down-told from-7 extra count s d = planned-told false (formatWith 7 extra) (formatWith 3 extra) count s d 7
+down-told from-8 extra count s d = planned-told false (formatWith 8 extra) (formatWith 3 extra) count s d 8
+down-told from-9 extra count s d = planned-told false (formatWith 9 extra) (formatWith 4 extra) count s d 9
+down-told from-10 extra count s d = planned-told false (formatWith 10 extra) (formatWith 5 extra) count s d 10
 
-pub up-told : {old new : ℕ} → Up old new → (extra count : ℕ) (s d : List ℕ) → toNewOf old extra count s d ≡ told true (withExtra old extra) (withExtra new extra) count s d
+pub up-told : {old new : ℕ} → Up old new → (extra count : ℕ) (s d : List ℕ) → toNewOf old extra count s d ≡ told true (formatWith old extra) (formatWith new extra) count s d
 unfolding toNewOf newPair
-up-told from-1 extra count s d = planned-told true (withExtra 1 extra) (withExtra 6 extra) count s d 1
-up-told from-3 extra count s d = planned-told true (withExtra 3 extra) (withExtra 7 extra) count s d 3
-up-told from-4 extra count s d = planned-told true (withExtra 4 extra) (withExtra 9 extra) count s d 4
-up-told from-5 extra count s d = planned-told true (withExtra 5 extra) (withExtra 10 extra) count s d 5
+up-told from-1 extra count s d = planned-told true (formatWith 1 extra) (formatWith 6 extra) count s d 1
+up-told from-3 extra count s d = planned-told true (formatWith 3 extra) (formatWith 7 extra) count s d 3
+up-told from-4 extra count s d = planned-told true (formatWith 4 extra) (formatWith 9 extra) count s d 4
+up-told from-5 extra count s d = planned-told true (formatWith 5 extra) (formatWith 10 extra) count s d 5
 
 -- the way back from a new format
 pub way-back : {old new : ℕ} → Up old new → Down new old

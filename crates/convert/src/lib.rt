@@ -4,12 +4,13 @@ ghost use mathlib.Core.Path.{_≡_};
 ghost use mathlib.Core.List.{_++_};
 ghost use Prim.Native.Nat.{_*_, _≤_, _<_};
 ghost use lib.ListN.{length, drop};
+ghost use Rattle.refusal.specs.Table.{wantedOf};
 ghost use Rattle.format.specs.Fields.{lenOf};
 ghost use Rattle.format.specs.declared.FormatLen.the-variants.{Is};
 ghost use Rattle.point.specs.Read.{pointOf};
 ghost use Rattle.strict.specs.Fit.{fitOf};
-ghost use Rattle.convert.specs.Pairs.{withExtra, pairOf, oldPair, newPair, plannedBy, lengthsOf};
-ghost use Rattle.convert.specs.Run.{wantedOf, turnedOf, imageOf, imagesOf, judgeRun, judgedOf, convertedOf, toOldOf, toNewOf};
+ghost use Rattle.convert.specs.Pairs.{formatWith, pairOf, oldPair, newPair, plannedBy, lengthsOf};
+ghost use Rattle.convert.specs.Run.{turnedOf, imageOf, imagesOf, judgeRun, judgedOf, convertedOf, toOldOf, toNewOf};
 ghost use Rattle.convert.specs.Asked.{Sound, Takes, TakesRun};
 use format::Format;
 use format::FormatLen;
@@ -125,7 +126,7 @@ fn formats(source: u8, target: u8, extra: u16) -> Pair
 // The format of a code of the standard, with extra bytes. Such a code is not refused, so the else is not reached.
 fn with_extra(code: u8, extra: u16) -> Format
     requires { ⌜ code < 11 ⌝ }
-    ensures { λ r. ⌜ r ≡ withExtra code extra ⌝ }
+    ensures { λ r. ⌜ r ≡ formatWith code extra ⌝ }
 {
     let NewFormat::Is(mut format) = Format::new(code) else {
         return Format::default();

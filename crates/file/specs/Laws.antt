@@ -10,9 +10,8 @@ use lib.ListN.{length}
 use Rattle.refusal.specs.declared.Refusal.{Refusal}
 use Rattle.refusal.specs.declared.Refusal.the-variants.{Version as VersionRefusal, RecordLength}
 use Rattle.format.specs.declared.Format.{Format}
-use Rattle.format.specs.declared.NewFormat.the-variants as new
 use Rattle.format.specs.declared.FormatLen.the-variants as len
-use Rattle.format.specs.Codes.{coded, formatOf}
+use Rattle.format.specs.Codes.{coded}
 use Rattle.format.specs.Fields.{recordBytes, lenOf}
 use Rattle.format.specs.Laws.{record-sum, when-le}
 use Rattle.header.specs.declared.HeaderAnswer.{HeaderAnswer}
@@ -114,11 +113,7 @@ unnumbered s =
 pub header-number : (s : List ℕ) {r : Refusal} → judged s ≡ answer.Refused r → recordNumber r 0 ≡ 0
 header-number s p = subst Unnumbered p (unnumbered s)
 
--- the format of a code, and the bytes of its record
-pub has-format : (f : ℕ) → f < 11 → formatOf f ≡ new.Is (coded f false)
-unfolding formatOf
-has-format f h = rw (lt-ltb _ _ h)
-
+-- the bytes of a code's record
 pub format-bytes : (f : ℕ) → (20 ≤ formatBytes f) × (formatBytes f ≤ 67)
 unfolding formatBytes coded
 format-bytes f =

@@ -7,39 +7,24 @@ use native.Mathlib.Omega.{arith}
 use borrow.Author.Tests.{le-ltb}
 use lib.ListN.{take}
 use Rattle.le.specs.Le.{Bytes}
-use Rattle.le.specs.Laws.{num-lt}
+use Rattle.le.specs.Laws.{bytes-take, num-lt}
 use Rattle.format.specs.declared.Format.{Format}
 use Rattle.format.specs.declared.NewFormat.{NewFormat}
 use Rattle.format.specs.declared.NewFormat.the-variants as new
 use Rattle.format.specs.declared.FormatLen.the-variants as len
-use Rattle.format.specs.Format.{plain}
+use Rattle.format.specs.Format.{plain, withExtra}
 use Rattle.format.specs.Codes.{coded, formatOf}
 use Rattle.format.specs.Fields.{recordBytes, lenOf}
-use Rattle.format.specs.Laws.{record-sum}
+use Rattle.format.specs.Laws.{code-known, record-sum}
 use Rattle.header.specs.declared.HeaderAnswer.{HeaderAnswer}
 use Rattle.header.specs.declared.HeaderAnswer.the-variants as answer
 use Rattle.header.specs.Header.{headerOf, defaultHeader}
 use Rattle.header.specs.Layout.{PointDataRecordLength, place}
-use Rattle.header.specs.Window.{bytes-take}
 use Rattle.header.specs.Judged.{judged, readBy, readOf}
 use Rattle.outline.specs.declared.Outline.{Outline}
 use Rattle.outline.specs.Outline.{outlineOf}
 use Rattle.file.specs.Rules.{formatBytes}
-use Rattle.file.specs.Laws.{has-format}
 use Rattle.file.specs.Holds.{Holds}
-
--- a format with this many extra bytes
-abbrev pub withExtra : ℕ → Format → Format
-withExtra n f =
-    record {
-      «has_gps_time» = f .«has_gps_time»;
-      «has_color» = f .«has_color»;
-      «is_extended» = f .«is_extended»;
-      «has_waveform» = f .«has_waveform»;
-      «has_nir» = f .«has_nir»;
-      «extra_bytes» = n;
-      «is_compressed» = f .«is_compressed»;
-    }
 
 -- "Record length below the format's: 8. The rest is extra bytes." Where the code is refused, the format with no attribute.
 abbrev pub filled : ℕ → NewFormat → Format
@@ -70,7 +55,7 @@ module _ (allowance : ℕ) (s : List ℕ) (h : Holds allowance s) where
   -- the format is the code's, with the rest as extra bytes,
   pub format-is : pointFormat o ≡ withExtra (o .«point_data_record_length» - formatBytes code) (coded code false)
   unfolding pointFormat formatBytes
-  format-is = ap (filled (o .«point_data_record_length»)) (has-format code (omega (arith, h .parts .format)))
+  format-is = ap (filled (o .«point_data_record_length»)) (code-known code (omega (arith, h .parts .format)))
 
   -- and its record is as long as the header says,
   pub format-long : recordBytes (pointFormat o) ≡ o .«point_data_record_length»

@@ -1,17 +1,25 @@
--- Laws of the field table.
-use Prim.Native.Nat.{ℕ, _+_, _≤_}
-use mathlib.Core.Path.{_≡_, refl, ap, sym, _∙_}
+-- Laws of codes and of the field table.
+use Prim.Native.Nat.{ℕ, _+_, _≤_, _<_}
+use mathlib.Core.Path.{_≡_, refl, sym, _∙_}
 use mathlib.Core.Bool.{Bool, true, false, cond}
 use mathlib.Core.List.{List, [], _∷_, _++_}
 use native.Mathlib.Nat.{add-zero}
 use native.Mathlib.Omega.{arith}
+use borrow.Author.Tests.{lt-ltb}
 use lib.Dec.{ltb}
 use Rattle.format.specs.declared.Format.{Format}
 use Rattle.format.specs.declared.Field.{Field}
 use Rattle.format.specs.declared.Field.the-variants.{UserData, ScanAngle, PointSourceId, GpsTime, Color, Nir, Waveform, ExtraBytes}
 use Rattle.refusal.specs.declared.Refusal.the-variants.{RecordLength}
 use Rattle.format.specs.declared.FormatLen.the-variants.{Is, Refused}
+use Rattle.format.specs.declared.NewFormat.the-variants as new
+use Rattle.format.specs.Codes.{coded, formatOf}
 use Rattle.format.specs.Fields.{only, restOf, fieldsOf, sizeOf, placeOf, Follow, sizes, recordBytes, lenOf}
+
+-- a code of the standard has a format
+pub code-known : (n : ℕ) → n < 11 → formatOf n ≡ new.Is (coded n false)
+unfolding formatOf
+code-known n h = rw (lt-ltb _ _ h)
 
 -- what is there or not is at most what is there
 pub when-le : (b : Bool) (n : ℕ) → cond b n 0 ≤ n

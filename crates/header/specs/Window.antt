@@ -6,7 +6,6 @@ use native.Mathlib.Nat.{sub-zero, zero-sub, suc-sub-suc}
 use native.Mathlib.Omega.{arith}
 use lib.ListN.{take, drop}
 use lib.Seq.{take-take, take-nil}
-use Rattle.le.specs.Le.{Bytes}
 
 pub drop-take : (k n : ℕ) (s : List ℕ) → drop k (take n s) ≡ take (n - k) (drop k s)
 drop-take zero n s = rw sub-zero
@@ -16,9 +15,3 @@ drop-take (suc k) (suc n) (x ∷ s) = rw suc-sub-suc (drop-take k n s)
 
 pub part-take : (k : ℕ) (s : List ℕ) (n at : ℕ) → at + n ≤ k → take n (drop at (take k s)) ≡ take n (drop at s)
 part-take k s n at h = ap (take n) (drop-take at k s) ∙ take-take n (k - at) (drop at s) (omega arith)
-
-pub bytes-take : (n : ℕ) (s : List ℕ) → Bytes s → Bytes (take n s)
-bytes-take zero s b k = omega arith
-bytes-take (suc n) [] b k = b k
-bytes-take (suc n) (x ∷ s) b zero = b 0
-bytes-take (suc n) (x ∷ s) b (suc k) = bytes-take n s (λ j. b (suc j)) k

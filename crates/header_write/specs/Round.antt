@@ -9,13 +9,13 @@ use lib.ListN.{length, take, drop, replicate, length-drop}
 use borrow.Author.Tests.{le-leb}
 use lib.Seq.{length-take-le, take-add, take-append-le, drop-append-le}
 use Rattle.le.specs.Le.{Bytes}
-use Rattle.le.specs.Laws.{num-take}
+use Rattle.le.specs.Laws.{bytes-take, num-take}
 use Rattle.lent.specs.declared.Wrote.the-variants as wrote
 use Rattle.header.specs.declared.HeaderAnswer.the-variants.{Whole}
 use Rattle.header.specs.Layout.{FileSignature, VersionMinor, StartOfFirstEvlr, NumberOfEvlrs, size, fieldsOf}
 use Rattle.header.specs.Header.{part, number, lasf, headerOf}
 use Rattle.header.specs.Judged.{versionOf, judged, readBy, readOf, paddingBy, paddingOf}
-use Rattle.header.specs.Window.{part-take, bytes-take}
+use Rattle.header.specs.Window.{part-take}
 use Rattle.header.specs.Laws.{accepted, within, standard-of}
 use Rattle.header_write.specs.Bytes.{block}
 use Rattle.header_write.specs.Wrote.{wroteBy, wroteOf}

@@ -26,17 +26,27 @@ pub num-one : (s : List ℕ) (at : ℕ) → num 1 at s ≡ getD s at 0
 unfolding num le
 num-one s at = simp (getD-drop, add-zero)
 
+-- a part of bytes is bytes
+pub bytes-take : (n : ℕ) (s : List ℕ) → Bytes s → Bytes (take n s)
+bytes-take zero s b k = omega arith
+bytes-take (suc n) [] b k = b k
+bytes-take (suc n) (x ∷ s) b zero = b 0
+bytes-take (suc n) (x ∷ s) b (suc k) = bytes-take n s (λ j. b (suc j)) k
+
+pub bytes-drop : (n : ℕ) (s : List ℕ) → Bytes s → Bytes (drop n s)
+bytes-drop n s b k = rw getD-drop (b (n + k))
+
 -- a number of w bytes is below 256 ^ w
 pub le-lt : (w : ℕ) (s : List ℕ) → Bytes s → le w s < 256 ^ w
 unfolding le
 le-lt zero s b = omega arith
 le-lt (suc w) s b =
-    let h : le w (drop 1 s) < 256 ^ w = le-lt w (drop 1 s) (λ k. rw getD-drop (b (1 + k))) in
+    let h : le w (drop 1 s) < 256 ^ w = le-lt w (drop 1 s) (bytes-drop 1 s b) in
     rw pow-succ' (omega (arith, b 0))
 
 pub num-lt : (w : ℕ) (s : List ℕ) (at : ℕ) → Bytes s → num w at s < 256 ^ w
 unfolding num
-num-lt w s at b = le-lt w (drop at s) (λ k. rw getD-drop (b (at + k)))
+num-lt w s at b = le-lt w (drop at s) (bytes-drop at s b)
 
 -- past the end there are only zeros
 le-none : (w : ℕ) → le w [] ≡ 0

@@ -1,11 +1,11 @@
 -- Laws of writes to the front of a lent slice and of a lent tail, cited wherever one record is written after another.
-use mathlib.Core.Path.{_≡_, refl, ap, sym, _∙_}
+use mathlib.Core.Path.{_≡_, ap, sym, _∙_}
 use mathlib.Core.List.{List, [], _∷_, _++_, append-assoc, append-nil}
-use Prim.Native.Nat.{ℕ, suc, _+_, _-_, _≤_, _<_}
+use Prim.Native.Nat.{ℕ, zero, suc, _+_, _-_, _*_, _≤_, _<_}
 use native.Mathlib.Omega.{arith}
-use native.Mathlib.Nat.{add-zero, zero-add, add-suc, suc-add}
+use native.Mathlib.Nat.{add-zero, zero-add, add-suc, suc-add, suc-mul}
 use borrow.Author.Tests.{le-leb, lt-leb}
-use lib.ListN.{length, set, take, drop, length-append, length-drop, drop-of-length-le}
+use lib.ListN.{length, set, take, drop, length-append, length-take, length-drop, drop-of-length-le}
 use lib.Seq.{sets, sets-eq, length-sets, take-all, drop-drop}
 use Rattle.refusal.specs.declared.Refusal.the-variants.{NoRoom}
 use Rattle.lent.specs.declared.Wrote.{Wrote}
@@ -36,6 +36,20 @@ tail d bs ys at r h e =
 -- a turn of a loop that writes one record after another, each into the rest: `w` is what the whole is to be, `rest` what is still to be written
 pub turn : (d bs rest ys : List ℕ) (at : ℕ) (r : Wrote) {w : List ℕ} → at + length bs ≤ length d → (r, ys) ≡ frontOf bs (take (length d - at) (drop at d)) → sets d at (bs ++ rest) ≡ w → (length (take at d ++ (ys ++ drop (length d - at) (drop at d))) ≡ length d) × (sets (take at d ++ (ys ++ drop (length d - at) (drop at d))) (at + length bs) rest ≡ w)
 turn d bs rest ys at r h e w = rw (tail d bs ys at r h e) (length-sets d at bs, sym (sets-append d bs rest at) ∙ w)
+
+-- the same of a piece of n bytes that is known to stand at the front of the tail
+pub laid-turn : (d bs rest ys : List ℕ) (at n : ℕ) {w : List ℕ} → length bs ≡ n → at + n ≤ length d → ys ≡ bs ++ drop n (take (length d - at) (drop at d)) → sets d at (bs ++ rest) ≡ w → (length (take at d ++ (ys ++ drop (length d - at) (drop at d))) ≡ length d) × (sets (take at d ++ (ys ++ drop (length d - at) (drop at d))) (at + n) rest ≡ w)
+laid-turn d bs rest ys at n size room laid all =
+    let fits : length bs ≤ length (take (length d - at) (drop at d)) = simp (length-take, length-drop) (omega arith) in
+    let put : (Bytes (length bs), ys) ≡ frontOf bs (take (length d - at) (drop at d)) = rw (laid, ← size) (sym (front bs _ fits)) in
+    rw (← size) (turn d bs rest ys at (Bytes (length bs)) (omega arith) put all)
+
+-- such a loop counts its records down: those that are left are one and the others
+pub less-one : (left m : ℕ) → 0 < left → left * m ≡ m + (left - 1) * m
+less-one zero m h = absurd (omega arith)
+less-one (suc k) m h =
+    let e : suc k - 1 ≡ k = omega arith in
+    rw (e, suc-mul) (omega arith)
 
 -- what is written from the start on
 pub whole : (d bs : List ℕ) (n : ℕ) → length bs ≡ n → n ≤ length d → sets d 0 bs ≡ bs ++ drop n d

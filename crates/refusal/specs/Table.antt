@@ -1,5 +1,7 @@
 -- Document 01, "Refusal numbers": the number and the value of each row, and the three numbers that a refusal returns.
-use Prim.Native.Nat.{ℕ}
+use Prim.Native.Nat.{ℕ, _^_}
+use mathlib.Core.Bool.{cond}
+use lib.Dec.{ltb}
 use Rattle.refusal.specs.declared.Refusal.{Refusal}
 use Rattle.refusal.specs.declared.Refusal.the-variants.{Short, Signature, Version, HeaderSize, Format, Compressed, FormatForVersion, RecordLength, PointOffset, Allowance, VlrExtent, PointExtent, EvlrExtent, EvlrStart, ReturnNumber, NumberOfReturns, Class, Channel, Overlap, Nir, Angle, NoRoom, ExtraBytes, VlrDataLength, Attributes, NoPair, Index}
 use Rattle.refusal.specs.declared.Row.{Row}
@@ -33,6 +35,10 @@ numberOf (VlrDataLength v) = 24
 numberOf Attributes = 25
 numberOf (NoPair v) = 26
 numberOf (Index v) = 27
+
+-- "bytes wanted in all, 0 if over 2^64−1", and so "bytes or entries wanted, 0 likewise"
+unfoldable pub wantedOf : ℕ → ℕ
+wantedOf n = cond (ltb n (2 ^ 64)) n 0
 
 -- the column "value"
 abbrev pub valueOf : Refusal → ℕ

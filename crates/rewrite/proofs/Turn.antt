@@ -1,20 +1,17 @@
 -- A turn of a loop that lays one piece after the other into the rest of the destination.
-use Prim.Native.Nat.{ℕ, zero, suc, _+_, _-_, _*_, _≤_, _<_}
+use Prim.Native.Nat.{ℕ, suc, _+_, _-_, _*_, _≤_, _<_}
 use mathlib.Core.Path.{_≡_, refl, ap, sym, _∙_}
 use mathlib.Core.Bool.{Bool, true, false, cond, not}
 use mathlib.Core.List.{List, [], _∷_, _++_}
-use native.Mathlib.Nat.{suc-mul}
 use native.Mathlib.Omega.{arith}
-use lib.ListN.{length, take, drop, length-drop, length-take}
+use lib.ListN.{length, take, drop, length-drop}
 use lib.Seq.{sets, drop-drop, length-take-le}
 use Rattle.le.specs.Le.{Bytes}
-use Rattle.lent.specs.declared.Wrote.the-variants as wrote
-use Rattle.lent.specs.Front.{frontOf}
-use Rattle.lent.specs.Laws.{front, turn}
+use Rattle.le.specs.Laws.{bytes-take, bytes-drop}
+use Rattle.lent.specs.Laws.{laid-turn, less-one}
 use Rattle.format.specs.declared.Format.{Format}
 use Rattle.format.specs.declared.FormatLen.the-variants as len
 use Rattle.format.specs.Fields.{lenOf}
-use Rattle.header.specs.Window.{bytes-take}
 use Rattle.outline.specs.declared.Outline.{Outline}
 use Rattle.cursor.specs.declared.Part.{Part}
 use Rattle.cursor.specs.declared.Cursor.{Cursor}
@@ -26,21 +23,7 @@ use Rattle.rewrite.specs.Back.{pointBack, pointsBack, partBack}
 use Rattle.rewrite.specs.Rewritten.{backOf}
 use Rattle.rewrite.specs.Asked.{PointPart, PartIs, At}
 use Rattle.rewrite.specs.Whole.{length-part, length-back}
-use Rattle.rewrite.specs.Laws.{bytes-drop, point-same}
-
--- a piece of n bytes laid at `at`: the whole keeps its length, and what is still to come makes the same of it
-pub laid-turn : (d bs rest ys : List ℕ) (at n : ℕ) {w : List ℕ} → length bs ≡ n → at + n ≤ length d → ys ≡ bs ++ drop n (take (length d - at) (drop at d)) → sets d at (bs ++ rest) ≡ w → (length (take at d ++ (ys ++ drop (length d - at) (drop at d))) ≡ length d) × (sets (take at d ++ (ys ++ drop (length d - at) (drop at d))) (at + n) rest ≡ w)
-laid-turn d bs rest ys at n size room laid all =
-    let fits : length bs ≤ length (take (length d - at) (drop at d)) = simp (length-take, length-drop) (omega arith) in
-    let put : (wrote.Bytes (length bs), ys) ≡ frontOf bs (take (length d - at) (drop at d)) = rw (laid, ← size) (sym (front bs _ fits)) in
-    rw (← size) (turn d bs rest ys at (wrote.Bytes (length bs)) (omega arith) put all)
-
--- the last record but `left - 1`
-pub less-one : (left m : ℕ) → 0 < left → left * m ≡ m + (left - 1) * m
-less-one zero m h = absurd (omega arith)
-less-one (suc k) m h =
-    let e : suc k - 1 ≡ k = omega arith in
-    rw (e, suc-mul) (omega arith)
+use Rattle.rewrite.specs.Laws.{point-same}
 
 module _ (f : Format) (m : ℕ) (s : List ℕ) (long : lenOf f ≡ len.Is m) (at left : ℕ) (more : 0 < left) (ends : at + left * m ≡ length s) where
   abbrev pub record-at : List ℕ

@@ -8,9 +8,9 @@ use native.Mathlib.Nat.{suc-mul, zero-mul}
 use native.Mathlib.Omega.{arith}
 use borrow.Author.Tests.{le-ltb}
 use lib.ListN.{length, take, drop, replicate, length-drop}
-use lib.Seq.{take-add, take-all, take-length, length-take-le, getD-drop}
+use lib.Seq.{take-add, take-all, take-length, length-take-le}
 use Rattle.le.specs.Le.{Bytes}
-use Rattle.le.specs.Laws.{num-take}
+use Rattle.le.specs.Laws.{bytes-take, bytes-drop, num-take}
 use Rattle.format.specs.declared.Format.{Format}
 use Rattle.format.specs.declared.FormatLen.the-variants as len
 use Rattle.format.specs.Fields.{lenOf, recordBytes}
@@ -29,7 +29,6 @@ use Rattle.vlr.specs.Laws as vlr
 use Rattle.vlr.specs.Heads.{record-back}
 use Rattle.header.specs.Layout.{VersionMinor, StartOfFirstEvlr, NumberOfEvlrs}
 use Rattle.header.specs.Header.{number}
-use Rattle.header.specs.Window.{bytes-take}
 use Rattle.header_write.specs.Back.{Paired}
 use Rattle.header_write.specs.Theorems as header
 use Rattle.rewrite.specs.Back.{headerBack, vlrBack, pointBy, pointBack, pointsBack}
@@ -50,9 +49,6 @@ module _ (f : Format) (s : List ℕ) (whole : PointPart f s) where
       ∙ ap (recordOf f (pointOf f s)) (a .extra)
       ∙ read-then-written f s bytes (a .room)
       ∙ take-all (recordBytes f) s (omega arith)
-
-pub bytes-drop : (n : ℕ) (s : List ℕ) → Bytes s → Bytes (drop n s)
-bytes-drop n s bytes k = rw getD-drop (bytes (n + k))
 
 pub points-same : (f : Format) (m k : ℕ) (s : List ℕ) → lenOf f ≡ len.Is m → k * m ≤ length s → Bytes s → pointsBack f m k s ≡ take (k * m) s
 unfolding pointsBack

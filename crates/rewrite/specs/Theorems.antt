@@ -8,11 +8,11 @@ use borrow.Author.Tests.{le-leb, lt-leb}
 use lib.ListN.{length, take, drop, replicate, take-append-drop, length-append}
 use lib.Seq.{take-at, drop-at}
 use Rattle.le.specs.Le.{Bytes}
+use Rattle.le.specs.Laws.{bytes-take}
 use Rattle.refusal.specs.declared.Refusal.{Refusal}
 use Rattle.refusal.specs.declared.Refusal.the-variants.{NoRoom}
 use Rattle.header.specs.Layout.{VersionMinor, StartOfFirstEvlr, NumberOfEvlrs}
 use Rattle.header.specs.Header.{number}
-use Rattle.header.specs.Window.{bytes-take}
 use Rattle.header_write.specs.Back.{Paired}
 use Rattle.outline.specs.declared.Outline.{Outline}
 use Rattle.file.specs.declared.Checked.the-variants.{Accepted}

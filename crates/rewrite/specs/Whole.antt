@@ -8,13 +8,13 @@ use native.Mathlib.Nat.{zero-add}
 use lib.ListN.{length, take, drop, length-append, length-drop, take-append-drop}
 use lib.Seq.{drop-drop, drop-length, length-take-le}
 use Rattle.le.specs.Le.{Bytes}
-use Rattle.header.specs.Window.{bytes-take}
+use Rattle.le.specs.Laws.{bytes-take, bytes-drop}
 use Rattle.outline.specs.declared.Outline.{Outline}
 use Rattle.cursor.specs.declared.Part.{Part}
 use Rattle.cursor.specs.declared.Kind.{Kind}
 use Rattle.cursor.specs.declared.Kind.the-variants.{Header, Vlr, Gap, Points, Evlr}
 use Rattle.rewrite.specs.Back.{partBack}
-use Rattle.rewrite.specs.Laws.{bytes-drop, part-same, vlr-same}
+use Rattle.rewrite.specs.Laws.{part-same, vlr-same}
 use Rattle.rewrite.specs.Pair.{written, header-written, length-written, written-append}
 use Rattle.cursor.specs.Parts.{bytesOf}
 use Rattle.rewrite.specs.Rewritten.{backOf}

@@ -7,6 +7,7 @@ use lib.ListN.{length, replicate}
 use lib.Dec.{ltb, eqb}
 use Rattle.le.specs.Le.{num, bytes}
 use Rattle.refusal.specs.declared.Refusal.the-variants.{Short, VlrDataLength}
+use Rattle.refusal.specs.Table.{wantedOf}
 use Rattle.lent.specs.declared.Wrote.{Wrote}
 use Rattle.lent.specs.declared.Wrote.the-variants as wrote
 use Rattle.lent.specs.Front.{frontOf}
@@ -69,15 +70,11 @@ noVlr =
 unfoldable pub recordSize : Bool → List ℕ → ℕ
 recordSize extended s = headSize extended + dataLength (lengthOf extended s)
 
--- "bytes wanted in all, 0 if over 2^64-1"
-unfoldable pub wanted : ℕ → ℕ
-wanted n = cond (ltb n (2 ^ 64)) n 0
-
 -- refusal 1 where the head, and then where the whole record is not there; else its bytes
 unfoldable pub extentOf : Bool → List ℕ → Extent
 extentOf extended s =
     cond (ltb (length s) (headSize extended)) (extent.Refused (Short (headSize extended)))
-    (cond (ltb (length s) (recordSize extended s)) (extent.Refused (Short (wanted (recordSize extended s))))
+    (cond (ltb (length s) (recordSize extended s)) (extent.Refused (Short (wantedOf (recordSize extended s))))
     (extent.Bytes (recordSize extended s)))
 
 -- the first where the record is all there, the second where it is refused

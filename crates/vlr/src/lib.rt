@@ -9,7 +9,8 @@ ghost use Rattle.vlr.specs.declared.Extent.the-variants as extent;
 ghost use Rattle.vlr.specs.Cut.{total};
 ghost use Rattle.vlr.specs.Layout.{Description, fields, place, headSize};
 ghost use Rattle.vlr.specs.Put.{Put};
-ghost use Rattle.vlr.specs.Vlr.{dataLength, isExtended, lengthOf, vlrOf, noVlr, wanted, extentOf, readOf, dataOf, lengthBytes, fieldBytes, headBytes, writtenOf};
+ghost use Rattle.refusal.specs.Table.{wantedOf};
+ghost use Rattle.vlr.specs.Vlr.{dataLength, isExtended, lengthOf, vlrOf, noVlr, extentOf, readOf, dataOf, lengthBytes, fieldBytes, headBytes, writtenOf};
 use lent::Wrote;
 use refusal::Refusal;
 
@@ -181,7 +182,7 @@ fn description_place(extended: bool) -> usize
 
 // The sum of two numbers, 0 if over 2^64 - 1.
 fn sum(a: u64, b: u64) -> u64
-    ensures { λ r. ⌜ r ≡ wanted (a + b) ⌝ }
+    ensures { λ r. ⌜ r ≡ wantedOf (a + b) ⌝ }
 {
     if 18446744073709551615 - a < b {
         0

@@ -4,8 +4,9 @@ use mathlib.Core.Path.{_≡_}
 use native.Mathlib.Omega.{arith}
 use borrow.Author.Needs.{needs}
 use lib.ListN.{length, drop}
+use Rattle.lent.specs.Laws.{less-one}
 use Rattle.convert.specs.Run.{judgeRun}
-use Rattle.convert.proofs.Turn.{less-one, record-length, judge-turn, none-left, first-number}
+use Rattle.convert.proofs.Turn.{record-length, judge-turn, none-left, first-number}
 use Rattle.convert.proofs.judge_records.Statement.{statement}
 use Rattle.convert.proofs.judge_records.Tie as tie
 

@@ -1,11 +1,12 @@
 use Prim.Native.Nat.{ℕ}
-use mathlib.Core.Path.{_≡_, sym, _∙_}
+use mathlib.Core.Path.{_≡_, ap, sym, _∙_}
 use mathlib.Core.Bool.{false}
 use native.Mathlib.Omega.{arith}
 use borrow.Author.Needs.{needs}
+use Rattle.format.specs.Format.{withExtra}
 use Rattle.format.specs.Codes.{coded}
-use Rattle.convert.specs.Pairs.{withExtra}
-use Rattle.convert.specs.Laws.{code-known}
+use Rattle.format.specs.Laws.{code-known}
+use Rattle.convert.specs.Pairs.{formatWith}
 use Rattle.convert.proofs.with_extra.Statement.{statement}
 use Rattle.convert.proofs.with_extra.Tie as tie
 
@@ -25,18 +26,8 @@ is-coded x =
     cc
 
 returns-2 : tie.Need-returns-2
-unfolding withExtra
-returns-2 c =
-    let same = is-coded (c .before) in
-    λ i. record {
-      «has_gps_time» = same i .«has_gps_time»;
-      «has_color» = same i .«has_color»;
-      «is_extended» = same i .«is_extended»;
-      «has_waveform» = same i .«has_waveform»;
-      «has_nir» = same i .«has_nir»;
-      «extra_bytes» = c .before .before .before .before .args .extra;
-      «is_compressed» = same i .«is_compressed»;
-    }
+unfolding formatWith
+returns-2 c = ap (withExtra (c .before .before .before .before .args .extra)) (is-coded (c .before))
 
 pub with-extra-spec : {M : Type 1} → statement M
 with-extra-spec = tie.close (tie.spec (λ c κs. search needs) (λ c. search needs) (λ c. search needs) (λ c κs. search needs) returns returns-2)

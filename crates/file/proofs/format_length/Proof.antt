@@ -9,15 +9,16 @@ use Rattle.format.specs.declared.NewFormat.the-variants as new
 use Rattle.format.specs.declared.FormatLen.the-variants as len
 use Rattle.format.specs.Codes.{coded}
 use Rattle.format.specs.Fields.{lenOf}
+use Rattle.format.specs.Laws.{code-known}
 use Rattle.file.specs.Rules.{formatBytes}
-use Rattle.file.specs.Laws.{has-format, has-length}
+use Rattle.file.specs.Laws.{has-length}
 use Rattle.file.proofs.format_length.Statement.{statement}
 use Rattle.file.proofs.format_length.Tie as tie
 
 returns : tie.Need-returns
 returns c =
     let m = c .before .before in
-    let p = sym (c .enum-told .given .1) ∙ m .new .ensures ∙ has-format (m .before .args .f) (m .before .pre) in
+    let p = sym (c .enum-told .given .1) ∙ m .new .ensures ∙ code-known (m .before .args .f) (m .before .pre) in
     let z : _≡_ {A = ℕ} 0 1 = cc in
     absurd (omega arith)
 
@@ -26,7 +27,7 @@ known : (c : tie.After-len) → c .len .result ≡ len.Is (formatBytes (c .befor
 known c =
     let m = c .before .before .before .before in
     let is : new.Is (c .before .before .format .given .0 .0) ≡ new.Is (coded (m .before .args .f) false) =
-    sym (c .before .before .format .given .1) ∙ m .new .ensures ∙ has-format (m .before .args .f) (m .before .pre) in
+    sym (c .before .before .format .given .1) ∙ m .new .ensures ∙ code-known (m .before .args .f) (m .before .pre) in
     let same : c .before .before .format .given .0 .0 ≡ coded (m .before .args .f) false = cc in
     c .len .ensures ∙ ap lenOf same ∙ has-length (m .before .args .f)
 

@@ -1,7 +1,8 @@
 use Prim.Native.Nat.{ℕ}
 use mathlib.Core.Path.{sym, ap, _∙_}
 use borrow.Author.Needs.{needs}
-use Rattle.file.specs.Points.{withExtra, filled, pointFormat}
+use Rattle.format.specs.Format.{withExtra}
+use Rattle.file.specs.Points.{filled, pointFormat}
 use Rattle.file.proofs.point_format.Statement.{statement}
 use Rattle.file.proofs.point_format.Tie as tie
 

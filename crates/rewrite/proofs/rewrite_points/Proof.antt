@@ -5,10 +5,10 @@ use native.Mathlib.Omega.{arith}
 use borrow.Author.Needs.{needs}
 use lib.ListN.{length, drop, length-take, length-drop}
 use lib.Seq.{sets}
-use Rattle.lent.specs.Laws.{whole}
+use Rattle.lent.specs.Laws.{whole, less-one}
 use Rattle.rewrite.specs.Back.{pointsBack}
 use Rattle.rewrite.specs.Laws.{part-same}
-use Rattle.rewrite.proofs.Turn.{less-one, record-length, record-whole, points-turn}
+use Rattle.rewrite.proofs.Turn.{record-length, record-whole, points-turn}
 use Rattle.rewrite.proofs.rewrite_points.Statement.{statement}
 use Rattle.rewrite.proofs.rewrite_points.Tie as tie
 

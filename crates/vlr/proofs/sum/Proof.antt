@@ -2,16 +2,16 @@ use Prim.Native.Nat.{_+_, _^_}
 use borrow.Author.Needs.{needs}
 use borrow.Author.Tests.{lt-ltb, le-ltb}
 use native.Mathlib.Omega.{arith}
-use Rattle.vlr.specs.Vlr.{wanted}
+use Rattle.refusal.specs.Table.{wantedOf}
 use Rattle.vlr.proofs.sum.Statement.{statement}
 use Rattle.vlr.proofs.sum.Tie as tie
 
 returns : tie.Need-returns
-unfolding wanted
+unfolding wantedOf
 returns c = rw (le-ltb (c .before .args .a + c .before .args .b) (2 ^ 64) (omega arith))
 
 returns-2 : tie.Need-returns-2
-unfolding wanted
+unfolding wantedOf
 returns-2 c = rw (lt-ltb (c .before .args .a + c .before .args .b) (2 ^ 64) (omega arith))
 
 pub sum-spec : {M : Type 1} → statement M
