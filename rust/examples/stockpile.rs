@@ -251,7 +251,7 @@ pub fn file() -> Result<Vec<u8>, Refusal> {
     ];
     let evlr = Vlr::new(true, "LASF_Spec", 3, "about this file", ABOUT.as_bytes());
 
-    let mut header = Header::new(Version { major: 1, minor: 4 });
+    let mut header = Header::new(Version { major: 1, minor: 4 })?;
     header.file_source_id = 1;
     header.global_encoding = 1 | 1 << 4; // adjusted standard time, and WKT
     header.set_system("POLE SCANNER");

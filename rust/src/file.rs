@@ -2,13 +2,14 @@
 
 use crate::{
     convert::Run,
+    format::Format,
     header::Header,
     point::Point,
-    refusal::{Kind, Refusal},
-    sys::{self, Place},
+    refusal::Refusal,
+    sys::{self, Cursor, Place},
     vlr::Vlr,
 };
-use std::{fmt, iter::FusedIterator, vec};
+use std::{fmt, iter::FusedIterator};
 
 /// An allowance of VLRs and EVLRs that no file of this many bytes can spend: each takes 54 bytes or more.
 pub fn allowance_for(bytes: usize) -> u64 {
@@ -31,6 +32,7 @@ pub struct File<'a> {
     allowance: u64,
     records: u64,
     header: Header,
+    format: Format,
 }
 
 impl<'a> File<'a> {
@@ -40,7 +42,7 @@ impl<'a> File<'a> {
     /// as for a small one.
     ///
     /// ```
-    /// # let header = inscjarol::Header::new(inscjarol::Version { major: 1, minor: 2 });
+    /// # let header = inscjarol::Header::new(inscjarol::Version { major: 1, minor: 2 })?;
     /// # let mut bytes = header.to_vec(&[])?;
     /// let file = inscjarol::File::check(&bytes)?;
     /// assert_eq!(file.points().len(), 0);
@@ -64,6 +66,7 @@ impl<'a> File<'a> {
             allowance,
             records,
             header: Header::read(bytes)?,
+            format: sys::header_point_format(bytes).map(Format::from_word)?,
         })
     }
 
@@ -88,6 +91,11 @@ impl<'a> File<'a> {
         sys::header_padding(self.bytes)
     }
 
+    /// The format of the points, with their extra bytes: what the header's record length has beyond the format's own.
+    pub fn format(&self) -> Format {
+        self.format
+    }
+
     /// How many VLRs and EVLRs there are, both kinds together.
     pub fn records(&self) -> u64 {
         self.records
@@ -100,17 +108,10 @@ impl<'a> File<'a> {
 
     /// The parts of the file in their order: header, VLRs, points, EVLRs, and the gaps between and after them. They cover
     /// the file, byte after byte.
-    pub fn parts(&self) -> Parts {
-        // Without room the library tells how many entries it wants.
-        let wanted = match sys::file_parts(self.bytes, self.allowance, &mut []) {
-            Err(refusal) if refusal.kind() == Kind::NoRoom => sys::in_memory(refusal.value()),
-            _ => 0,
-        };
-        let mut table = vec![0; wanted.saturating_mul(3)];
-        let told = sys::file_parts(self.bytes, self.allowance, &mut table).unwrap_or(0);
-        table.truncate(told.saturating_mul(3));
+    pub fn parts(&self) -> Parts<'a> {
         Parts {
-            table: table.into_iter(),
+            file: self.bytes,
+            cursor: sys::cursor_start(self.bytes, self.allowance).ok(),
         }
     }
 
@@ -146,24 +147,22 @@ impl<'a> File<'a> {
 
     /// The points, each in turn. `len` says how many are left, and `nth` goes there without reading what lies between.
     pub fn points(&self) -> Points<'a> {
-        let place = sys::file_walker(self.bytes, self.allowance);
         Points {
             file: self.bytes,
-            place,
+            place: sys::file_walker(self.bytes, self.allowance),
             record_length: u64::from(self.header.point_data_record_length),
+            extra: sys::layout_extra(self.format.word()),
         }
     }
 
     /// The points as a run of records, to be converted.
     pub fn run(&self) -> Run<'a> {
-        let length = u64::from(self.header.point_data_record_length);
-        let count = self.point_count();
-        let start = u64::from(self.header.offset_to_point_data);
+        let points = self.parts().find(|part| part.kind == PartKind::Points);
         Run {
             format: self.header.point_data_record_format,
-            extra_bytes: self.header.format().map_or(0, |format| format.extra_bytes),
-            count,
-            records: sys::part_of(self.bytes, start, count.saturating_mul(length)),
+            extra_bytes: self.format.extra_bytes,
+            count: self.point_count(),
+            records: points.map_or(&[], |points| self.part(points)),
         }
     }
 
@@ -236,35 +235,28 @@ pub struct Part {
 
 /// The parts of a file in their order; from [`File::parts`].
 #[derive(Clone, Debug)]
-pub struct Parts {
-    /// Kind, start and length of each, as the library tells them.
-    table: vec::IntoIter<u64>,
+pub struct Parts<'a> {
+    file: &'a [u8],
+    cursor: Option<Cursor>,
 }
 
-impl Iterator for Parts {
+impl Iterator for Parts<'_> {
     type Item = Part;
 
     fn next(&mut self) -> Option<Part> {
-        let kind = PartKind::from_number(self.table.next()?)?;
-        let (start, len) = (self.table.next()?, self.table.next()?);
+        let [kind, start, len] = sys::cursor_next(self.file, self.cursor.as_mut()?)?;
+        let kind = PartKind::from_number(kind)?;
         Some(Part { kind, start, len })
-    }
-
-    fn size_hint(&self) -> (usize, Option<usize>) {
-        let left = self.table.len() / 3;
-        (left, Some(left))
     }
 }
 
-impl ExactSizeIterator for Parts {}
-
-impl FusedIterator for Parts {}
+impl FusedIterator for Parts<'_> {}
 
 /// VLRs or EVLRs in their order; from [`File::vlrs`] and [`File::evlrs`].
 #[derive(Clone, Debug)]
 pub struct Vlrs<'a> {
     file: &'a [u8],
-    parts: Parts,
+    parts: Parts<'a>,
     kind: PartKind,
     left: usize,
 }
@@ -295,19 +287,15 @@ pub struct Points<'a> {
     file: &'a [u8],
     place: Place,
     record_length: u64,
+    /// Start and length of the extra bytes in a record.
+    extra: (u64, u64),
 }
 
-impl<'a> Points<'a> {
+impl Points<'_> {
     /// How many points are left.
     fn left(&self) -> u64 {
         let [_, _, left, ..] = self.place;
         left
-    }
-
-    /// The bytes of the next record, as that part of the file.
-    fn record(&self) -> &'a [u8] {
-        let [_, at, ..] = self.place;
-        sys::part_of(self.file, at, self.record_length)
     }
 }
 
@@ -315,12 +303,13 @@ impl<'a> Iterator for Points<'a> {
     type Item = Point<'a>;
 
     fn next(&mut self) -> Option<Point<'a>> {
-        let (record, [format, ..]) = (self.record(), self.place);
+        let (start, len) = self.extra;
+        let extra_bytes = match len {
+            0 => &[],
+            _ => sys::part_of(sys::file_record(self.file, &self.place), start, len),
+        };
         let numbers = sys::file_next(self.file, &mut self.place).ok()?;
-        Some(Point::from_numbers(
-            &numbers,
-            sys::point_extra(record, format as u32),
-        ))
+        Some(Point::from_numbers(&numbers, extra_bytes))
     }
 
     fn size_hint(&self) -> (usize, Option<usize>) {

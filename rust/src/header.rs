@@ -1,7 +1,6 @@
 //! The header of a file.
 
 use crate::{
-    format::Format,
     refusal::Refusal,
     sys::{self, HeaderNumbers},
     text,
@@ -18,13 +17,9 @@ pub struct Version {
 }
 
 impl Version {
-    /// The size of a header of this version without padding; that of 1.2 where there is no such version.
-    pub fn header_size(self) -> u16 {
-        match (self.major, self.minor) {
-            (1, 3) => 235,
-            (1, 4) => 375,
-            _ => 227,
-        }
+    /// The size of a header of this version without padding; refused with 3 where it is none of 1.0 to 1.4.
+    pub fn header_size(self) -> Result<u16, Refusal> {
+        sys::header_size(self.major, self.minor)
     }
 }
 
@@ -121,10 +116,10 @@ pub struct Header {
 
 impl Header {
     /// A header of this version with no points and no records, of point format 0, whose points would follow it directly:
-    /// scales are 1, and all that is not said here is zero.
-    pub fn new(version: Version) -> Header {
-        let header_size = version.header_size();
-        Header {
+    /// scales are 1, and all that is not said here is zero. Refused with 3 where there is no such version.
+    pub fn new(version: Version) -> Result<Header, Refusal> {
+        let header_size = version.header_size()?;
+        Ok(Header {
             file_source_id: 0,
             global_encoding: 0,
             guid: [0; 16],
@@ -155,7 +150,7 @@ impl Header {
             start_of_waveform_data_packet_record: None,
             evlrs: None,
             large_file: None,
-        }
+        })
     }
 
     /// The header at the front of these bytes: refused with 1, 2 or 3 where there is none.
@@ -182,8 +177,8 @@ impl Header {
 
     /// The bytes of the header and of its padding.
     pub fn to_vec(&self, padding: &[u8]) -> Result<Vec<u8>, Refusal> {
-        let mut bytes =
-            vec![0; usize::from(self.version.header_size()).saturating_add(padding.len())];
+        let fields = usize::from(self.version.header_size()?);
+        let mut bytes = vec![0; fields.saturating_add(padding.len())];
         self.write(padding, &mut bytes)?;
         Ok(bytes)
     }
@@ -206,13 +201,6 @@ impl Header {
     /// Sets the generating software to this text, as far as it fits.
     pub fn set_software(&mut self, software: &str) {
         self.generating_software = text::field(software);
-    }
-
-    /// The format of the file's points, with their extra bytes: what the record length has beyond the format's own.
-    pub fn format(&self) -> Result<Format, Refusal> {
-        let format = Format::new(self.point_data_record_format)?;
-        let own = format.len()?;
-        Ok(format.with_extra_bytes(self.point_data_record_length.saturating_sub(own)))
     }
 
     /// The coordinate of an x as it is stored.
@@ -363,6 +351,13 @@ impl Header {
     }
 }
 
+/// The default header of the Rust crate las.
+impl Default for Header {
+    fn default() -> Header {
+        Header::from_numbers(&sys::header_default())
+    }
+}
+
 impl PartialEq for Header {
     fn eq(&self, other: &Header) -> bool {
         self.numbers() == other.numbers()
@@ -379,7 +374,7 @@ mod tests {
 
     /// A header whose every field is another number.
     fn telling() -> Header {
-        let mut header = Header::new(V14);
+        let mut header = Header::new(V14).unwrap();
         let mut next = 0x0102_0304_0506_0708_u64;
         let mut more = || {
             next = next
@@ -463,16 +458,18 @@ mod tests {
     #[test]
     fn sizes_of_the_versions() {
         for (minor, size) in [(0, 227), (1, 227), (2, 227), (3, 235), (4, 375)] {
-            let header = Header::new(Version { major: 1, minor });
+            let header = Header::new(Version { major: 1, minor }).unwrap();
             let bytes = header.to_vec(&[]).unwrap();
             assert_eq!(bytes.len(), size);
             let again = Header::read(&bytes).unwrap();
             assert_eq!(usize::from(again.header_size), size);
         }
-        let refusal = Header::new(Version { major: 2, minor: 0 })
-            .to_vec(&[])
-            .unwrap_err();
+        let refusal = Header::new(Version { major: 2, minor: 0 }).unwrap_err();
         assert_eq!((refusal.number(), refusal.value()), (3, 512));
+        let mut unknown = telling();
+        unknown.version.minor = 5;
+        let refusal = unknown.write(&[], &mut [0; 400]).unwrap_err();
+        assert_eq!((refusal.number(), refusal.value()), (3, 261));
     }
 
     #[test]
@@ -501,8 +498,13 @@ mod tests {
     }
 
     #[test]
-    fn format_with_extra_bytes() {
-        let format = telling().format().unwrap();
-        assert_eq!((format.to_u8(), format.extra_bytes), (Ok(7), 4));
+    fn the_default_is_of_las() {
+        let header = Header::default();
+        assert_eq!(header.version, Version { major: 1, minor: 2 });
+        assert_eq!(
+            (header.header_size, header.point_data_record_length),
+            (227, 20)
+        );
+        assert_eq!(Header::read(&header.to_vec(&[]).unwrap()), Ok(header));
     }
 }

@@ -8,7 +8,7 @@
 //!
 //! ```
 //! # fn made() -> Result<Vec<u8>, inscjarol::Refusal> {
-//! #     let mut header = inscjarol::Header::new(inscjarol::Version { major: 1, minor: 2 });
+//! #     let mut header = inscjarol::Header::new(inscjarol::Version { major: 1, minor: 2 })?;
 //! #     header.number_of_point_records = 2;
 //! #     header.x_scale_factor = 0.01;
 //! #     let mut bytes = header.to_vec(&[])?;

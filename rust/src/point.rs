@@ -102,6 +102,25 @@ impl<'a> Point<'a> {
         Ok(bytes)
     }
 
+    /// That the point goes into an old format with every field the same for an old reader; else the first field that does
+    /// not, as [`Run::to_old`] judges each record.
+    ///
+    /// [`Run::to_old`]: crate::Run::to_old
+    pub fn check_old(&self) -> Result<(), Refusal> {
+        sys::strict_check(&self.numbers())
+    }
+
+    /// The point with the flags and the angle of the new formats, as [`Run::to_new`] makes each record; one that has them
+    /// stays as it is.
+    ///
+    /// [`Run::to_new`]: crate::Run::to_new
+    #[must_use]
+    pub fn upgraded(&self) -> Point<'a> {
+        let mut numbers = self.numbers();
+        sys::strict_upgraded(&mut numbers);
+        Point::from_numbers(&numbers, self.extra_bytes)
+    }
+
     /// The point's numbers in the library's order.
     fn numbers(&self) -> PointNumbers {
         let color = self.color.unwrap_or_default();
@@ -257,5 +276,30 @@ mod tests {
         };
         let record = point.to_vec(format).unwrap();
         assert_eq!(Point::read(&record, format).unwrap().nir, None);
+    }
+
+    #[test]
+    fn one_point_down_and_up() {
+        let refusal = telling().check_old().unwrap_err();
+        assert_eq!(
+            (refusal.number(), refusal.value(), refusal.record()),
+            (20, 77, 0)
+        );
+        let ground = Point {
+            nir: None,
+            ..telling()
+        };
+        assert_eq!(ground.check_old(), Ok(()));
+        let old = Point {
+            flags: Flags::TwoByte(0x51, 0x22),
+            scan_angle: ScanAngle::Rank(3),
+            ..ground
+        };
+        let new = old.upgraded();
+        assert!(matches!(new.flags, Flags::ThreeByte(0x21, 0x41, 0x02)));
+        assert!(matches!(new.scan_angle, ScanAngle::Scaled(500)));
+        assert_eq!(new.extra_bytes, b"xy");
+        assert_eq!(new.upgraded(), new);
+        assert_eq!(new.check_old(), Ok(()));
     }
 }

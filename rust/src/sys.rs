@@ -14,6 +14,9 @@ type Row = [u64; 3];
 /// A point, as the library lists it.
 pub(crate) type PointNumbers = [u64; 24];
 
+/// A cursor over the parts of a file, as the library keeps it.
+pub(crate) type Cursor = [u64; 9];
+
 /// A walker's place: the format's word, where the next record is, how many are left, the count, and the refusal.
 pub(crate) type Place = [u64; 7];
 
@@ -40,6 +43,7 @@ extern "C" {
     fn las_format_extend(format: u32) -> u32;
     fn las_format_len(format: u32, row: &mut Row);
     fn las_format_to_u8(format: u32, row: &mut Row);
+    fn las_layout(format: u32, numbers: &mut [u64; 26]);
 
     fn las_flags_return_number(flags: u32) -> u8;
     fn las_flags_number_of_returns(flags: u32) -> u8;
@@ -89,6 +93,7 @@ extern "C" {
         user_id: &mut [u8; 16],
         description: &mut [u8; 32],
     );
+    fn las_vlr_head_size(extended: bool) -> u64;
     fn las_vlr_data(s: *const u8, len: usize, extended: bool, part: &mut [u64; 2]);
     fn las_vlr_write(
         extended: bool,
@@ -113,6 +118,14 @@ extern "C" {
     );
     fn las_header_padding(s: *const u8, len: usize, part: &mut [u64; 2]);
     fn las_header_points(s: *const u8, len: usize, row: &mut Row);
+    fn las_header_point_format(s: *const u8, len: usize, row: &mut Row);
+    fn las_header_size(major: u8, minor: u8, row: &mut Row);
+    fn las_header_default(
+        numbers: &mut [u64; 51],
+        guid: &mut [u8; 16],
+        system: &mut [u8; 32],
+        software: &mut [u8; 32],
+    );
     fn las_header_end_of_points(s: *const u8, len: usize, row: &mut Row);
     fn las_header_write(
         numbers: &[u64; 51],
@@ -127,14 +140,16 @@ extern "C" {
     );
 
     fn las_file_check(file: *const u8, len: usize, allowance: u64, row: &mut [u64; 4]);
-    fn las_file_parts(
+    fn las_cursor_start(
         file: *const u8,
         len: usize,
         allowance: u64,
-        table: *mut u64,
-        table_len: usize,
+        cursor: &mut Cursor,
         row: &mut Row,
     );
+    fn las_cursor_next(file: *const u8, len: usize, cursor: &mut Cursor, part: &mut [u64; 3])
+        -> u8;
+    fn las_file_record(file: *const u8, len: usize, place: &Place, part: &mut [u64; 2]);
     fn las_file_walker(file: *const u8, len: usize, allowance: u64, place: &mut Place);
     fn las_file_next(
         file: *const u8,
@@ -152,6 +167,8 @@ extern "C" {
         row: &mut Row,
     );
 
+    fn las_strict_check(numbers: &PointNumbers, row: &mut Row);
+    fn las_strict_upgraded(numbers: &mut PointNumbers);
     fn las_convert_to_old(
         src: *const u8,
         src_len: usize,
@@ -220,6 +237,15 @@ pub(crate) fn format_to_u8(format: u32) -> Result<u8, Refusal> {
     // SAFETY: a total call, whose only pointer is a reference to a row of this frame.
     unsafe { las_format_to_u8(format, &mut row) }
     answer(row).map(|code| code as u8)
+}
+
+/// Start and length of the extra bytes in a record.
+pub(crate) fn layout_extra(format: u32) -> (u64, u64) {
+    let mut numbers = [0; 26];
+    // SAFETY: a total call, whose only pointer is a reference to numbers of this frame.
+    unsafe { las_layout(format, &mut numbers) }
+    let [.., start, len] = numbers;
+    (start, len)
 }
 
 pub(crate) fn flags_return_number(flags: u32) -> u8 {
@@ -351,8 +377,27 @@ pub(crate) fn point_write(
     answer(row).map(in_memory)
 }
 
-/// The head of the record at the front of the slice, and the bytes of the record in all.
-pub(crate) fn vlr_read(s: &[u8], extended: bool) -> Result<(VlrHead, usize), Refusal> {
+/// That the point goes into an old format with every field the same, or the first that does not.
+pub(crate) fn strict_check(numbers: &PointNumbers) -> Result<(), Refusal> {
+    let mut row = [0; 3];
+    // SAFETY: a total call, whose pointers are references.
+    unsafe { las_strict_check(numbers, &mut row) }
+    answer(row).map(|_| ())
+}
+
+/// Makes an old point new.
+pub(crate) fn strict_upgraded(numbers: &mut PointNumbers) {
+    // SAFETY: a total call, whose pointer is a reference.
+    unsafe { las_strict_upgraded(numbers) }
+}
+
+pub(crate) fn vlr_head_size(extended: bool) -> usize {
+    // SAFETY: a total call on a number.
+    in_memory(unsafe { las_vlr_head_size(extended) })
+}
+
+/// The head of the record at the front of the slice.
+pub(crate) fn vlr_read(s: &[u8], extended: bool) -> Result<VlrHead, Refusal> {
     let mut row = [0; 3];
     let (mut numbers, mut user_id, mut description) = ([0; 3], [0; 16], [0; 32]);
     // SAFETY: pointer and length are those of one borrowed slice.
@@ -367,12 +412,11 @@ pub(crate) fn vlr_read(s: &[u8], extended: bool) -> Result<(VlrHead, usize), Ref
             &mut description,
         )
     }
-    let head = VlrHead {
+    answer(row).map(|_| VlrHead {
         numbers,
         user_id,
         description,
-    };
-    answer(row).map(|len| (head, in_memory(len)))
+    })
 }
 
 pub(crate) fn vlr_data(s: &[u8], extended: bool) -> &[u8] {
@@ -432,6 +476,41 @@ pub(crate) fn header_read(s: &[u8]) -> Result<HeaderNumbers, Refusal> {
     })
 }
 
+/// The default header of the Rust crate las.
+pub(crate) fn header_default() -> HeaderNumbers {
+    let mut header = HeaderNumbers {
+        numbers: [0; 51],
+        guid: [0; 16],
+        system_identifier: [0; 32],
+        generating_software: [0; 32],
+    };
+    let HeaderNumbers {
+        numbers,
+        guid,
+        system_identifier,
+        generating_software,
+    } = &mut header;
+    // SAFETY: a total call, whose pointers are references.
+    unsafe { las_header_default(numbers, guid, system_identifier, generating_software) }
+    header
+}
+
+/// The size of a version's header without padding.
+pub(crate) fn header_size(major: u8, minor: u8) -> Result<u16, Refusal> {
+    let mut row = [0; 3];
+    // SAFETY: a total call, whose only pointer is a reference to a row of this frame.
+    unsafe { las_header_size(major, minor, &mut row) }
+    answer(row).map(|size| size as u16)
+}
+
+/// The word of the format of the points, by the header at the front of the slice.
+pub(crate) fn header_point_format(s: &[u8]) -> Result<u32, Refusal> {
+    let mut row = [0; 3];
+    // SAFETY: pointer and length are those of one borrowed slice.
+    unsafe { las_header_point_format(s.as_ptr(), s.len(), &mut row) }
+    answer(row).map(|word| word as u32)
+}
+
 pub(crate) fn header_padding(s: &[u8]) -> &[u8] {
     let mut part = [0; 2];
     // SAFETY: pointer and length are those of one borrowed slice.
@@ -488,13 +567,29 @@ pub(crate) fn file_check(file: &[u8], allowance: u64) -> (Result<(), Refusal>, u
     (answer([number, value, record]).map(|_| ()), found)
 }
 
-/// Three numbers for each part, at the front of the table; the answer is how many parts there are.
-pub(crate) fn file_parts(file: &[u8], allowance: u64, table: &mut [u64]) -> Result<usize, Refusal> {
-    let mut row = [0; 3];
-    let (to, to_len) = (table.as_mut_ptr(), table.len());
-    // SAFETY: both pointers go with the lengths of their borrowed slices, of which the one written to is borrowed alone.
-    unsafe { las_file_parts(file.as_ptr(), file.len(), allowance, to, to_len, &mut row) }
-    answer(row).map(in_memory)
+/// The cursor at the first part.
+pub(crate) fn cursor_start(file: &[u8], allowance: u64) -> Result<Cursor, Refusal> {
+    let (mut row, mut cursor) = ([0; 3], [0; 9]);
+    // SAFETY: pointer and length are those of one borrowed slice.
+    unsafe { las_cursor_start(file.as_ptr(), file.len(), allowance, &mut cursor, &mut row) }
+    answer(row).map(|_| cursor)
+}
+
+/// Kind, start and length of the part at the cursor, which moves on; none after the last.
+pub(crate) fn cursor_next(file: &[u8], cursor: &mut Cursor) -> Option<[u64; 3]> {
+    let mut part = [0; 3];
+    // SAFETY: pointer and length are those of one borrowed slice.
+    let has = unsafe { las_cursor_next(file.as_ptr(), file.len(), cursor, &mut part) };
+    (has == 1).then_some(part)
+}
+
+/// The bytes of the next record.
+pub(crate) fn file_record<'a>(file: &'a [u8], place: &Place) -> &'a [u8] {
+    let mut part = [0; 2];
+    // SAFETY: pointer and length are those of one borrowed slice.
+    unsafe { las_file_record(file.as_ptr(), file.len(), place, &mut part) }
+    let [start, len] = part;
+    part_of(file, start, len)
 }
 
 pub(crate) fn file_walker(file: &[u8], allowance: u64) -> Place {

@@ -39,7 +39,7 @@ impl<'a> Vlr<'a> {
 
     /// The record at the front of these bytes, refused with 1 where it is not all there.
     pub fn read(bytes: &'a [u8], extended: bool) -> Result<Vlr<'a>, Refusal> {
-        let (head, _) = sys::vlr_read(bytes, extended)?;
+        let head = sys::vlr_read(bytes, extended)?;
         let [reserved, record_id, _] = head.numbers;
         Ok(Vlr {
             extended,
@@ -75,8 +75,7 @@ impl<'a> Vlr<'a> {
 
     /// The bytes of head and data together.
     pub fn size(&self) -> usize {
-        let head: usize = if self.extended { 60 } else { 54 };
-        head.saturating_add(self.data.len())
+        sys::vlr_head_size(self.extended).saturating_add(self.data.len())
     }
 
     /// The text of the user id.

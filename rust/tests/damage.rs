@@ -47,7 +47,7 @@ fn agree(bytes: &[u8]) -> bool {
     assert_eq!(file.vlrs().len() + file.evlrs().len(), of_records as usize);
 
     // The points are the records of their part, each read by itself.
-    let format = file.header().format().unwrap();
+    let format = file.format();
     let run = file.part(points_part.unwrap());
     assert_eq!(file.run().records, run);
     let length = usize::from(file.header().point_data_record_length);

@@ -48,7 +48,7 @@ fn the_parts_of_the_example() {
         listed += &format!("{} {} {}\n", part.kind, part.start, part.len);
     }
     assert_eq!(listed, TWO_POINTS);
-    assert_eq!(file.parts().len(), 4);
+    assert_eq!(file.parts().count(), 4);
     assert_eq!(file.records(), 1);
     let vlr = file.vlrs().next().unwrap();
     assert_eq!(
@@ -124,7 +124,7 @@ fn an_allowance_is_spent_by_both_kinds() {
 fn the_usual_allowance_is_never_spent() {
     // As many VLRs without data as a file has room for, and a header that counts one more.
     for count in [0, 1, 2, 50] {
-        let mut header = Header::new(Version { major: 1, minor: 2 });
+        let mut header = Header::new(Version { major: 1, minor: 2 }).unwrap();
         header.number_of_variable_length_records = count + 1;
         header.offset_to_point_data = 227 + 54 * count;
         let mut bytes = header.to_vec(&[]).unwrap();
@@ -158,7 +158,7 @@ fn everything_of_a_rich_file() {
         assert_eq!(about, ["text", "empty"]);
         assert!(file.evlrs().all(|evlr| evlr.extended));
 
-        let format = file.header().format().unwrap();
+        let format = file.format();
         assert_eq!((format.to_u8(), format.extra_bytes), (Ok(code), extra));
         let mut at = 0;
         for part in file.parts() {

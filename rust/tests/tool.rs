@@ -397,7 +397,10 @@ fn rewriting() {
         .file_type()
         .is_symlink());
     assert_eq!(fs::read(&to).unwrap(), fs::read(&from).unwrap());
-    assert_eq!(fs::metadata(&to).unwrap().permissions().mode() & 0o777, 0o640);
+    assert_eq!(
+        fs::metadata(&to).unwrap().permissions().mode() & 0o777,
+        0o640
+    );
     assert_eq!(folder.names(), ["link.las", "out.las"]);
 }
 
@@ -458,7 +461,7 @@ fn rewriting_that_fails_leaves_everything() {
 /// A file of 20 GB in format 6, all zeros after its header, on a disk that has no room for that.
 fn huge(path: &Path) -> u64 {
     let bytes: u64 = 20_000_000_000;
-    let mut header = Header::new(Version { major: 1, minor: 4 });
+    let mut header = Header::new(Version { major: 1, minor: 4 }).unwrap();
     header.point_data_record_format = 6;
     header.point_data_record_length = 30;
     let points = (bytes - 375) / 30;
@@ -507,7 +510,7 @@ fn an_interrupted_rewriting_leaves_nothing() {
     // 400 MB, so that the signal comes while it writes.
     let folder = Folder::new("interrupted");
     let from = folder.join("in.las");
-    let mut header = Header::new(Version { major: 1, minor: 2 });
+    let mut header = Header::new(Version { major: 1, minor: 2 }).unwrap();
     header.number_of_point_records = 20_000_000;
     let mut file = File::create(&from).unwrap();
     file.write_all(&header.to_vec(&[]).unwrap()).unwrap();

@@ -344,7 +344,7 @@ mod tests {
     use inscjarol::{Flags, Version};
 
     fn row(choice: Option<&str>, raw: bool, code: u8) -> Result<Row, String> {
-        let mut header = Header::new(Version { major: 1, minor: 4 });
+        let mut header = Header::new(Version { major: 1, minor: 4 }).unwrap();
         header.x_scale_factor = 0.01;
         header.x_offset = 10.0;
         header.z_scale_factor = f64::NAN;

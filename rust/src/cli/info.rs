@@ -9,7 +9,7 @@ use super::{
     show::{counted, grouped, plain, plain_or_none},
     Command, Failure, Status,
 };
-use inscjarol::{File, Header, PartKind, Vlr};
+use inscjarol::{File, PartKind, Vlr};
 
 pub(crate) const COMMAND: Command = Command {
     name: "info",
@@ -62,8 +62,8 @@ fn placed<'a>(file: &File<'a>, kind: PartKind) -> Vec<Placed<'a>> {
 }
 
 /// What a point record of the file has, in words.
-fn format_words(header: &Header) -> String {
-    let format = header.format().unwrap_or_default();
+fn format_words(file: &File<'_>) -> String {
+    let (header, format) = (file.header(), file.format());
     let mut has = vec![match format.is_extended {
         true => "extended flags",
         false => "old flags",
@@ -135,7 +135,7 @@ fn for_people(name: &str, file: &File<'_>, out: &mut Output) -> Result<(), Failu
             counted(u64::from(header.header_size), "byte")
         ),
     )?;
-    say("point format", format_words(header))?;
+    say("point format", format_words(file))?;
     say(
         "points",
         format!(
@@ -260,10 +260,7 @@ fn for_programs(name: &str, file: &File<'_>) -> String {
         .number("point_offset", header.offset_to_point_data)
         .number("format", header.point_data_record_format)
         .number("record_length", header.point_data_record_length)
-        .number(
-            "extra_bytes",
-            header.format().unwrap_or_default().extra_bytes,
-        )
+        .number("extra_bytes", file.format().extra_bytes)
         .number("points", file.point_count())
         .list("points_by_return", numbers(&header.points_by_return()))
         .list(

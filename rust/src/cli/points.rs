@@ -68,7 +68,7 @@ fn run(words: &Words, out: &mut Output) -> Result<Status, Failure> {
 fn write(words: &Words, name: &str, file: &File<'_>, out: &mut Output) -> Result<Status, Failure> {
     let choice = words.value("fields").map(|fields| fields.to_string_lossy());
     let header = file.header();
-    let format = header.format().unwrap_or_default();
+    let format = file.format();
     let row = Row::new(
         choice.as_deref(),
         words.has("raw"),

@@ -28,7 +28,7 @@ impl Chance {
 
 /// A file of LAS 1.2 in format 0 with this many points and nothing else.
 pub fn plain(points: u32) -> Vec<u8> {
-    let mut header = Header::new(Version { major: 1, minor: 2 });
+    let mut header = Header::new(Version { major: 1, minor: 2 }).unwrap();
     header.number_of_point_records = points;
     let mut bytes = header.to_vec(&[]).unwrap();
     for x in 0..points {
@@ -43,7 +43,7 @@ pub fn plain(points: u32) -> Vec<u8> {
 
 /// The file of 327 bytes whose parts are told as an example: one VLR with 4 bytes, a gap of 2 bytes, two points.
 pub fn two_points() -> Vec<u8> {
-    let mut header = Header::new(Version { major: 1, minor: 2 });
+    let mut header = Header::new(Version { major: 1, minor: 2 }).unwrap();
     header.offset_to_point_data = 287;
     header.number_of_variable_length_records = 1;
     header.number_of_point_records = 2;
@@ -100,7 +100,7 @@ pub fn rich(code: u8, extra: u16) -> Vec<u8> {
         };
         points.extend(point.to_vec(format).unwrap());
     }
-    let mut header = Header::new(Version { major: 1, minor: 4 });
+    let mut header = Header::new(Version { major: 1, minor: 4 }).unwrap();
     header.header_size = 375 + 3;
     header.offset_to_point_data = 375 + 3 + vlrs.len() as u32 + 4;
     header.number_of_variable_length_records = 2;
