@@ -1,194 +1,205 @@
-//! Times the published Rust and the port side by side on points of format 3, and the port's file
-//! check on small and large files.
+//! Times the published Rust and the port side by side, in one run, with memcpy of the same bytes as the limit, and
+//! prints the figures as tables in Markdown.
 //!
-//! Every round times each contender once, in turn, so that what slows the machine for a while slows
-//! them all. The median of the rounds is told, and the shortest.
+//! Every round times each contender once, in turn, so that what slows the machine for a while slows them all.
 
-mod check;
+mod work;
 
-use las::{point::Format, raw::Point};
-use oracle::{
-    capi::{self, Numbers},
-    format, point, records,
+use std::time::Instant;
+use work::{CHECKS, Work};
+
+/// The same work done three ways, over so many records of a format code.
+struct Line {
+    name: &'static str,
+    code: u8,
+    records: usize,
+    memcpy: fn(&mut Work),
+    rust: fn(&mut Work),
+    port: fn(&mut Work),
+}
+
+const FEW: usize = 65_536;
+const MANY: usize = 1_000_000;
+
+const READ: Line = Line {
+    name: "point read",
+    code: 3,
+    records: FEW,
+    memcpy: Work::copy_points,
+    rust: Work::rust_read,
+    port: Work::port_read,
 };
-use std::{hint::black_box, time::Instant};
 
-const RECORDS: usize = 65_536;
-const RECORD: usize = 34;
-pub const ROUNDS: usize = 401;
+const WRITE: Line = Line {
+    name: "point write",
+    rust: Work::rust_write,
+    port: Work::port_write,
+    ..READ
+};
 
-/// The records, what was read of them, and where they are written back. All of it has been written
-/// to before anything is timed.
-struct Work {
-    format: Format,
-    word: u32,
-    bytes: Vec<u8>,
-    points: Vec<Point>,
-    numbers: Vec<Numbers>,
-    written: Vec<u8>,
-}
+const WALK: Line = Line {
+    name: "walk over a file",
+    rust: Work::rust_walk,
+    port: Work::port_walk,
+    ..READ
+};
 
-impl Work {
-    fn new() -> Work {
-        let format = Format::new(3).expect("format 3");
-        let word = format::word(format);
-        let mut bytes = vec![0; RECORDS * RECORD];
-        for (i, record) in bytes.chunks_exact_mut(RECORD).enumerate() {
-            records::fill(word, i as u64, record);
-        }
-        let points: Vec<Point> = bytes
-            .chunks_exact(RECORD)
-            .map(|record| Point::read_from(record, &format).expect("a whole record"))
-            .collect();
-        Work {
-            format,
-            word,
-            numbers: points.iter().map(point::numbers).collect(),
-            points,
-            written: vec![0xff; bytes.len()],
-            bytes,
-        }
-    }
+const SUMS: Line = Line {
+    name: "X, Y, Z by walking",
+    rust: Work::rust_sums,
+    port: Work::port_sums,
+    ..READ
+};
 
-    fn rust_read(&mut self) {
-        let mut cursor = &self.bytes[..];
-        for _ in 0..RECORDS {
-            let point = Point::read_from(&mut cursor, &self.format).expect("a whole record");
-            black_box(&point);
-        }
-    }
+const COLUMNS: Line = Line {
+    name: "the same, the Rust by columns",
+    rust: Work::rust_columns,
+    ..SUMS
+};
 
-    /// As the port does: each point ends up as 24 numbers in one lent place.
-    fn rust_read_numbers(&mut self) {
-        let mut cursor = &self.bytes[..];
-        let mut numbers = [0; 24];
-        for _ in 0..RECORDS {
-            let point = Point::read_from(&mut cursor, &self.format).expect("a whole record");
-            numbers = point::numbers(&point);
-            black_box(&mut numbers);
-        }
-        black_box(numbers);
-    }
+const REWRITE: Line = Line {
+    name: "rewriting",
+    code: 6,
+    records: MANY,
+    memcpy: Work::copy_file,
+    rust: Work::rust_rewrite,
+    port: Work::port_rewrite,
+};
 
-    fn port_read(&mut self) {
-        let (mut row, mut numbers) = ([0; 3], [0; 24]);
-        for record in self.bytes.chunks_exact(RECORD) {
-            capi::point_read(record, self.word, &mut row, &mut numbers);
-            assert_eq!(row[0], 0);
-            black_box(&mut numbers);
-        }
-    }
+const TO_OLD: Line = Line {
+    name: "strict conversion",
+    memcpy: Work::copy_points,
+    rust: Work::rust_to_old,
+    port: Work::port_to_old,
+    ..REWRITE
+};
 
-    /// Into a slice, as the port does.
-    fn rust_write_slice(&mut self) {
-        let mut cursor = &mut self.written[..];
-        for point in &self.points {
-            point.write_to(&mut cursor, &self.format).expect("room");
-        }
-        black_box(&mut self.written);
-    }
+const TO_NEW: Line = Line {
+    name: "upgrade",
+    code: 1,
+    rust: Work::rust_to_new,
+    port: Work::port_to_new,
+    ..TO_OLD
+};
 
-    /// Into a `Vec` that has the room already.
-    fn rust_write_vec(&mut self) {
-        self.written.clear();
-        for point in &self.points {
-            point
-                .write_to(&mut self.written, &self.format)
-                .expect("a Vec has room");
-        }
-        black_box(&mut self.written);
-    }
+/// Its times are those of a call, whatever the file has of points.
+const CHECK: Line = Line {
+    name: "file check",
+    memcpy: Work::copy_heads,
+    rust: Work::rust_check,
+    port: Work::port_check,
+    ..READ
+};
 
-    /// As the port does: each point is made of 24 numbers. Into a `Vec`, the faster way.
-    fn rust_write_numbers(&mut self) {
-        self.written.clear();
-        for numbers in &self.numbers {
-            point::point(numbers, &[])
-                .write_to(&mut self.written, &self.format)
-                .expect("a Vec has room");
-        }
-        black_box(&mut self.written);
-    }
-
-    fn port_write(&mut self) {
-        let mut row = [0; 3];
-        let places = self.written.chunks_exact_mut(RECORD);
-        for (numbers, place) in self.numbers.iter().zip(places) {
-            capi::point_write(numbers, &[], self.word, place, &mut row);
-            assert_eq!(row[0], 0);
-        }
-        black_box(&mut self.written);
-    }
-
-    /// What is timed is right: the port reads the Rust's numbers, and each writes the bytes back.
-    fn check(&mut self) {
-        let (mut row, mut numbers) = ([0; 3], [0; 24]);
-        for (record, expected) in self.bytes.chunks_exact(RECORD).zip(&self.numbers) {
-            capi::point_read(record, self.word, &mut row, &mut numbers);
-            assert_eq!(numbers, *expected);
-        }
-        for write in WRITES.map(|(_, write)| write) {
-            self.written.fill(0xff);
-            write(self);
-            assert!(self.written == self.bytes);
-        }
-    }
-}
-
-/// Nanoseconds a record that one pass takes.
-fn time(work: &mut Work, pass: fn(&mut Work)) -> f64 {
-    let start = Instant::now();
-    pass(work);
-    start.elapsed().as_nanos() as f64 / RECORDS as f64
-}
-
-/// The passes that do the same work in one way or another; the port's is the last.
-type Pass = (&'static str, fn(&mut Work));
-
-const READS: [Pass; 3] = [
-    ("Rust read", Work::rust_read),
-    ("Rust read into 24 numbers", Work::rust_read_numbers),
-    ("port read", Work::port_read),
+const LINES: [Line; 9] = [
+    READ, WRITE, WALK, SUMS, COLUMNS, REWRITE, TO_OLD, TO_NEW, CHECK,
 ];
 
-const WRITES: [Pass; 4] = [
-    ("Rust write into a slice", Work::rust_write_slice),
-    ("Rust write into a Vec", Work::rust_write_vec),
-    ("Rust write from 24 numbers", Work::rust_write_numbers),
-    ("port write", Work::port_write),
-];
+/// Which of them are timed at several sizes, and at which.
+const GROWING: [Line; 4] = [WALK, REWRITE, TO_OLD, CHECK];
+const SIZES: [usize; 5] = [1_000, 10_000, 100_000, 1_000_000, 10_000_000];
 
-/// Times the passes and prints, for each, the median and how long the port's takes against it; then
-/// the same of the shortest times, which a busy machine disturbs the least.
-fn compare<const N: usize>(work: &mut Work, passes: [Pass; N]) {
-    let mut times = [const { Vec::new() }; N];
-    for _ in 0..ROUNDS {
-        for ((_, pass), times) in passes.iter().zip(&mut times) {
-            times.push(time(work, *pass));
+/// What one contender took in each round, in nanoseconds a record or a call.
+struct Times(Vec<f64>);
+
+impl Times {
+    fn median(&mut self) -> f64 {
+        self.0.sort_by(f64::total_cmp);
+        self.0[self.0.len() / 2]
+    }
+
+    /// The shortest, which a busy machine disturbs the least.
+    fn shortest(&self) -> f64 {
+        self.0.iter().copied().fold(f64::INFINITY, f64::min)
+    }
+}
+
+/// How many rounds a line of so many records is timed for; an odd number, for the median.
+fn rounds(records: usize) -> usize {
+    (100_000_000 / records).clamp(11, 401) | 1
+}
+
+impl Line {
+    /// What is timed once, and so what its time is divided by.
+    fn units(&self, records: usize) -> usize {
+        if self.name == CHECK.name {
+            CHECKS
+        } else {
+            records
         }
     }
-    for times in &mut times {
-        times.sort_by(f64::total_cmp);
+
+    /// Times memcpy, the Rust and the port, in this order, after a check that what is timed is right.
+    fn time(&self, work: &mut Work, records: usize) -> [Times; 3] {
+        (self.rust)(work);
+        (self.port)(work);
+        work.check_made();
+        let passes = [self.memcpy, self.rust, self.port];
+        let mut times = passes.map(|_| Times(Vec::new()));
+        for _ in 0..rounds(records) {
+            for (pass, times) in passes.iter().zip(&mut times) {
+                let start = Instant::now();
+                pass(work);
+                let nanoseconds = start.elapsed().as_nanos() as f64;
+                times.0.push(nanoseconds / self.units(records) as f64);
+            }
+        }
+        times
     }
-    let [median, shortest] = [ROUNDS / 2, 0].map(|k| times.each_ref().map(|times| times[k]));
-    for (k, (name, _)) in passes.iter().enumerate() {
+}
+
+/// A row for each line: medians, and their ratios; then the ratios of the shortest times.
+fn compare() {
+    println!(
+        "| | format | records | bytes | port | Rust | port/Rust | memcpy | port/memcpy | shortest: port/Rust | port/memcpy |"
+    );
+    println!("|---|---|---|---|---|---|---|---|---|---|---|");
+    for line in LINES {
+        let Line {
+            name,
+            code,
+            records,
+            ..
+        } = line;
+        let mut work = Work::new(code, records);
+        work.check_numbers();
+        let mut times = line.time(&mut work, records);
+        let [memcpy, rust, port] = times.each_mut().map(Times::median);
+        let [least_memcpy, least_rust, least_port] = times.each_ref().map(Times::shortest);
         println!(
-            "{name:28}{:8.2}{:8.2}{:12.2}{:8.2}",
-            median[k],
-            median[N - 1] / median[k],
-            shortest[k],
-            shortest[N - 1] / shortest[k]
+            "| {name} | {code} | {records} | {} | {port:.2} | {rust:.2} | {:.2} | {memcpy:.2} | {:.1} | {:.2} | {:.1} |",
+            work.record_bytes(),
+            port / rust,
+            port / memcpy,
+            least_port / least_rust,
+            least_port / least_memcpy,
         );
     }
 }
 
+/// A row for each line that grows: the medians at each size, the port's and behind it the Rust's.
+fn grow() {
+    print!("| points |");
+    for records in SIZES {
+        print!(" {records} |");
+    }
+    println!("\n|---|{}", "---|".repeat(SIZES.len()));
+    for line in GROWING {
+        print!("| {} |", line.name);
+        for records in SIZES {
+            let mut work = Work::new(line.code, records);
+            let [_, rust, port] = line.time(&mut work, records).each_mut().map(Times::median);
+            print!(" {port:.1} ({rust:.1}) |");
+        }
+        println!();
+    }
+}
+
 fn main() {
-    let mut work = Work::new();
-    work.check();
-    println!("{RECORDS} records of format 3, {RECORD} bytes each, {ROUNDS} rounds:");
-    println!("nanoseconds a record, and the port's over it");
-    println!("{:28}{:>8}{:>8}{:>12}", "", "median", "ratio", "shortest");
-    compare(&mut work, READS);
-    compare(&mut work, WRITES);
-    check::compare();
+    println!("Nanoseconds a record, of the file check nanoseconds a call; medians.\n");
+    compare();
+    println!(
+        "\nThe same by the number of points in the file or run: the port's, and the Rust's in brackets.\n"
+    );
+    grow();
 }

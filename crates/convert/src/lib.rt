@@ -6,7 +6,6 @@ ghost use Prim.Native.Nat.{_*_, _≤_, _<_};
 ghost use lib.ListN.{length, drop};
 ghost use Rattle.refusal.specs.Table.{wantedOf};
 ghost use Rattle.format.specs.Fields.{lenOf};
-ghost use Rattle.format.specs.declared.FormatLen.the-variants.{Is};
 ghost use Rattle.point.specs.Read.{pointOf};
 ghost use Rattle.strict.specs.Fit.{fitOf};
 ghost use Rattle.convert.specs.Pairs.{formatWith, pairOf, oldPair, newPair, plannedBy, lengthsOf};
@@ -213,7 +212,7 @@ fn wanted(count: usize, length: usize) -> u64
 
 // The first record that does not fit, with its number.
 fn judge_records(src: &[u8], format: Format, m: usize, count: usize) -> Judged
-    requires { ⌜ (lenOf format ≡ Is m) × (count * m ≤ length (now src)) ⌝ }
+    requires { ⌜ count * m ≤ length (now src) ⌝ }
     ensures { λ r. ⌜ r ≡ judgeRun format m 1 count (now (src .entry)) ⌝ }
 {
     let mut at = 0;
@@ -231,15 +230,15 @@ fn judge_records(src: &[u8], format: Format, m: usize, count: usize) -> Judged
     Judged::Fits
 }
 
-// Whether a record fits. A whole record is not refused by its reader, so the else is not reached.
+// Whether a record fits, by the three fields that decide it.
 fn judge_record(src: &[u8], format: Format) -> Fit
-    requires { ⌜ lenOf format ≡ Is (length (now src)) ⌝ }
     ensures { λ r. ⌜ r ≡ fitOf (pointOf format (now (src .entry))) ⌝ }
 {
-    let PointRead::Is(point) = Point::read_from(src, format) else {
-        return Fit::Fits;
-    };
-    strict::check(point)
+    strict::check_fields(
+        point::flags_in(src, format),
+        point::nir_in(src, format),
+        point::scan_angle_in(src, format),
+    )
 }
 
 // One record after the other, each into the rest of the destination.

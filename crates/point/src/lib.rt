@@ -2,9 +2,9 @@
 ghost use mathlib.Core.Path.{_≡_};
 ghost use mathlib.Core.Bool.{cond};
 ghost use mathlib.Core.List.{[]};
-ghost use Prim.Native.Nat.{_≤_};
+ghost use Prim.Native.Nat.{_+_, _≤_};
 ghost use lib.Dec.{ltb};
-ghost use lib.ListN.{length};
+ghost use lib.ListN.{length, take, drop};
 ghost use Rattle.format.specs.Fields.{recordBytes};
 ghost use Rattle.point.specs.Read.{fieldOf, flagsAt, angleAt, timeAt, colorAt, nirOf, nirAt, waveformAt, maybeWaveformAt, pointOf, sizedOf, readOf, extraOf, noPoint};
 use angle::ScanAngle;
@@ -115,6 +115,27 @@ impl Point {
     }
 }
 
+// The fields that a strict conversion looks at, each alone, in the first bytes of s; a byte past the end counts as 0.
+
+pub fn flags_in(s: &[u8], format: Format) -> Flags
+    ensures { λ r. ⌜ r ≡ pointOf format (now (s .entry)) .flags ⌝ }
+{
+    flags_at(s, format.is_extended)
+}
+
+pub fn scan_angle_in(s: &[u8], format: Format) -> ScanAngle
+    ensures { λ r. ⌜ r ≡ pointOf format (now (s .entry)) .«scan_angle» ⌝ }
+{
+    angle_at(s, format.is_extended)
+}
+
+pub fn nir_in(s: &[u8], format: Format) -> MaybeNir
+    ensures { λ r. ⌜ r ≡ pointOf format (now (s .entry)) .nir ⌝ }
+{
+    let places = layout::places_for(format);
+    nir_at(s, format.has_nir, places.nir)
+}
+
 // The point's extra bytes, as a part of s; none where the read is refused.
 pub fn extra_bytes(s: &[u8], format: Format) -> &[u8]
     ensures { λ r. ⌜ now r ≡ extraOf format (now (s .entry)) ⌝ }
@@ -127,6 +148,7 @@ pub fn extra_bytes(s: &[u8], format: Format) -> &[u8]
 
 // The point of a format whose record has n bytes.
 fn read_sized(s: &[u8], format: Format, n: usize) -> PointRead
+    requires { ⌜ n ≡ recordBytes format ⌝ }
     ensures { λ r. ⌜ r ≡ sizedOf format n (now (s .entry)) ⌝ }
 {
     if s.len() < n {
@@ -137,6 +159,7 @@ fn read_sized(s: &[u8], format: Format, n: usize) -> PointRead
 
 // The fields of a record, each at the format's place for it.
 fn read_whole(s: &[u8], format: Format) -> Point
+    requires { ⌜ recordBytes format ≤ length (now s) ⌝ }
     ensures { λ r. ⌜ r ≡ pointOf format (now (s .entry)) ⌝ }
 {
     let at = layout::places_for(format);
@@ -190,26 +213,37 @@ fn angle_at(s: &[u8], is_extended: bool) -> ScanAngle
     ScanAngle::Rank(le::i8_at(s, 16))
 }
 
+// The n bytes of s from a place on. What reads them then tests no length: the compiler knows this one.
+fn part_at(s: &[u8], at: usize, n: usize) -> &[u8]
+    requires { ⌜ at + n ≤ length (now s) ⌝ }
+    ensures { λ r. ⌜ now r ≡ take n (drop at (now (s .entry))) ⌝ }
+{
+    &s[at..at + n]
+}
+
 // The time, where the format has it.
 fn time_at(s: &[u8], has: bool, at: usize) -> MaybeTime
+    requires { ⌜ at + cond has 8 0 ≤ length (now s) ⌝ }
     ensures { λ r. ⌜ r ≡ timeAt has at (now (s .entry)) ⌝ }
 {
     if has {
-        return MaybeTime::Some(le::f64_at(s, at));
+        let part = part_at(s, at, 8);
+        return MaybeTime::Some(le::f64_at(part, 0));
     }
     MaybeTime::None
 }
 
 // The colour, where the format has it.
 fn color_at(s: &[u8], has: bool, at: usize) -> MaybeColor
-    requires { ⌜ at ≤ 67 ⌝ }
+    requires { ⌜ at + cond has 6 0 ≤ length (now s) ⌝ }
     ensures { λ r. ⌜ r ≡ colorAt has at (now (s .entry)) ⌝ }
 {
     if has {
+        let part = part_at(s, at, 6);
         return MaybeColor::Some(Color {
-            red: le::u16_at(s, at),
-            green: le::u16_at(s, at + 2),
-            blue: le::u16_at(s, at + 4),
+            red: le::u16_at(part, 0),
+            green: le::u16_at(part, 2),
+            blue: le::u16_at(part, 4),
         });
     }
     MaybeColor::None
@@ -237,25 +271,25 @@ fn some_or_none_if_zero(n: u16) -> MaybeNir
 
 // The waveform, where the format has it.
 fn waveform_at(s: &[u8], has: bool, at: usize) -> MaybeWaveform
-    requires { ⌜ at ≤ 67 ⌝ }
+    requires { ⌜ at + cond has 29 0 ≤ length (now s) ⌝ }
     ensures { λ r. ⌜ r ≡ maybeWaveformAt has at (now (s .entry)) ⌝ }
 {
     if has {
-        return MaybeWaveform::Some(Waveform::read_from(s, at));
+        let part = part_at(s, at, 29);
+        return MaybeWaveform::Some(Waveform::read_from(part));
     }
     MaybeWaveform::None
 }
 
 impl Waveform {
-    // The waveform at a place of the first bytes of s.
-    fn read_from(s: &[u8], at: usize) -> Waveform
-        requires { ⌜ at ≤ 67 ⌝ }
-        ensures { λ r. ⌜ r ≡ waveformAt at (now (s .entry)) ⌝ }
+    // The waveform in the first bytes of s.
+    fn read_from(s: &[u8]) -> Waveform
+        ensures { λ r. ⌜ r ≡ waveformAt 0 (now (s .entry)) ⌝ }
     {
-        let location = le::f32_at(s, at + 13);
-        let x_t = le::f32_at(s, at + 17);
-        let y_t = le::f32_at(s, at + 21);
-        let z_t = le::f32_at(s, at + 25);
+        let location = le::f32_at(s, 13);
+        let x_t = le::f32_at(s, 17);
+        let y_t = le::f32_at(s, 21);
+        let z_t = le::f32_at(s, 25);
         let nans = WaveformNans {
             return_point_waveform_location: location.nan,
             x_t: x_t.nan,
@@ -263,9 +297,9 @@ impl Waveform {
             z_t: z_t.nan,
         };
         Waveform {
-            wave_packet_descriptor_index: le::u8_at(s, at),
-            byte_offset_to_waveform_data: le::u64_at(s, at + 1),
-            waveform_packet_size_in_bytes: le::u32_at(s, at + 9),
+            wave_packet_descriptor_index: le::u8_at(s, 0),
+            byte_offset_to_waveform_data: le::u64_at(s, 1),
+            waveform_packet_size_in_bytes: le::u32_at(s, 9),
             return_point_waveform_location: location.value,
             x_t: x_t.value,
             y_t: y_t.value,

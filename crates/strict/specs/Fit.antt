@@ -59,6 +59,9 @@ abbrev pub angleFitOf : ScanAngle → Fit
 angleFitOf (Rank r) = Fits
 angleFitOf (Scaled n) = scaledFitOf n
 
--- the record check, in this order
+-- the record check, in this order; it depends on three fields
+abbrev pub fieldsFit : Flags → MaybeNir → ScanAngle → Fit
+fieldsFit flags nir angle = firstOf (flagsFitOf flags) (firstOf (nirFitOf nir) (angleFitOf angle))
+
 unfoldable pub fitOf : Point → Fit
-fitOf p = firstOf (flagsFitOf (p .flags)) (firstOf (nirFitOf (p .nir)) (angleFitOf (p .«scan_angle»)))
+fitOf p = fieldsFit (p .flags) (p .nir) (p .«scan_angle»)

@@ -1,7 +1,7 @@
 // One record of the strict conversion and of the upgrade, added by document 01: whether a point can be made old with every
 // field the same, and an old point made new. The bytes are the point writer's.
 ghost use mathlib.Core.Path.{_≡_};
-ghost use Rattle.strict.specs.Fit.{firstOf, overlapGoes, readingsFit, flagsFitOf, nirFitOf, rankFits, scaledFitOf, angleFitOf, fitOf};
+ghost use Rattle.strict.specs.Fit.{firstOf, overlapGoes, readingsFit, flagsFitOf, nirFitOf, rankFits, scaledFitOf, angleFitOf, fieldsFit, fitOf};
 ghost use Rattle.strict.specs.Upgrade.{upgradedFlags, upgradedOld, upgradedOf};
 use angle::ScanAngle;
 use flags::Flags;
@@ -34,6 +34,13 @@ pub fn check(point: Point) -> Fit
     let flags = point.flags;
     let nir = point.nir;
     let scan_angle = point.scan_angle;
+    check_fields(flags, nir, scan_angle)
+}
+
+// The same of the fields that it depends on, for a caller that has read no others.
+pub fn check_fields(flags: Flags, nir: MaybeNir, scan_angle: ScanAngle) -> Fit
+    ensures { λ r. ⌜ r ≡ fieldsFit flags nir «scan_angle» ⌝ }
+{
     let of_flags = check_flags(flags);
     let of_nir = check_nir(nir);
     let of_angle = check_angle(scan_angle);

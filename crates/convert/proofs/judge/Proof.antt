@@ -50,4 +50,4 @@ judge-spec =
     (tie.spec
     (λ c. source-bytes (c .before .before)) (λ c κs. source-bytes (c .before .before .before)) returns
     (λ c. target-bytes (c .before .before .before .before)) (λ c κs. target-bytes (c .before .before .before .before .before)) returns-2
-    returns-3 (λ c κs. (c .before .before .before .before .before .before .pre .from, there (c .before .before .before))) returns-4)
+    returns-3 (λ c κs. there (c .before .before .before)) returns-4)

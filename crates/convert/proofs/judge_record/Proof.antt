@@ -1,30 +1,18 @@
-use Prim.Native.Nat.{ℕ}
-use mathlib.Core.Path.{_≡_, ap, sym, _∙_}
-use native.Mathlib.Omega.{arith}
 use borrow.Author.Needs.{needs}
-use Rattle.point.specs.Read.{pointOf}
-use Rattle.strict.specs.Fit.{fitOf}
-use Rattle.convert.specs.Laws.{whole-read}
+use Rattle.strict.specs.Fit.{fieldsFit, fitOf}
 use Rattle.convert.proofs.judge_record.Statement.{statement}
 use Rattle.convert.proofs.judge_record.Tie as tie
+use mathlib.Core.Path.{_∙_}
 
--- a whole record is not refused
+-- the three fields are those of the record's point
 returns : tie.Need-returns
+unfolding fitOf
 returns c =
-    let read = c .before .before in
-    let s = read .before .before in
-    let is = sym (whole-read (s .args .format) (s .args .src .now) (s .pre)) ∙ sym (read .read-from .ensures) ∙ c .enum-told .given .1 in
-    let z : _≡_ {A = ℕ} 0 1 = cc in
-    absurd (omega arith)
-
-returns-2 : tie.Need-returns-2
-returns-2 c =
-    let is = c .before .before in
-    let read = is .before .before in
-    let s = read .before .before in
-    let same = sym (is .point .given .1) ∙ read .read-from .ensures ∙ whole-read (s .args .format) (s .args .src .now) (s .pre) in
-    let point : is .point .given .0 .0 ≡ pointOf (s .args .format) (s .args .src .now) = cc in
-    c .check .ensures ∙ ap fitOf point
+    let a = c .before in
+    let n = a .before in
+    let f = n .before in
+    c .check-fields .ensures ∙ (λ i. fieldsFit (f .flags-in .ensures i) (n .nir-in .ensures i) (a .scan-angle-in .ensures i))
 
 pub judge-record-spec : {M : Type 1} → statement M
-judge-record-spec = tie.close (tie.spec (λ c κs. search needs) (λ c. search needs) (λ c. search needs) returns (λ c κs. search needs) returns-2)
+judge-record-spec =
+    tie.close (tie.spec (λ c κs. search needs) (λ c κs. search needs) (λ c κs. search needs) (λ c κs. search needs) returns)

@@ -6,7 +6,7 @@ use borrow.Author.Needs.{needs}
 use lib.ListN.{length, drop}
 use Rattle.lent.specs.Laws.{less-one}
 use Rattle.convert.specs.Run.{judgeRun}
-use Rattle.convert.proofs.Turn.{record-length, judge-turn, none-left, first-number}
+use Rattle.convert.proofs.Turn.{judge-turn, none-left, first-number}
 use Rattle.convert.proofs.judge_records.Statement.{statement}
 use Rattle.convert.proofs.judge_records.Tie as tie
 
@@ -22,13 +22,7 @@ more : (c : tie.In-loop Inv-loop μ-loop) → c .before .loop .left * c .before 
 more c = less-one (c .before .loop .left) (c .before .before .before .args .m) (omega arith)
 
 loop-holds : tie.Need-loop-holds Inv-loop μ-loop
-loop-holds c = (omega arith, omega (arith, c .before .pre .1), first-number _ _ _ _)
-
-judge-record-requires : tie.Need-judge-record-requires Inv-loop μ-loop
-judge-record-requires c κs =
-    let l = c .before .before in
-    let s = l .before .before in
-    rw (record-length (s .args .m) (s .args .src .now) (l .loop .at) (l .loop .left) (omega arith) (l .loop .inv .1)) (s .pre .0)
+loop-holds c = (omega arith, omega (arith, c .before .pre), first-number _ _ _ _)
 
 returns : tie.Need-returns Inv-loop μ-loop
 returns c =
@@ -60,5 +54,5 @@ judge-records-spec =
     (tie.spec
     Inv-loop μ-loop loop-holds
     (λ c. omega (arith, more c)) (λ c. search needs) (λ c. search needs) (λ c. omega (arith, more c))
-    judge-record-requires (λ c. search needs) (λ c. search needs) (λ c. omega arith) returns (λ c. search needs)
+    (λ c κs. search needs) (λ c. search needs) (λ c. search needs) (λ c. omega arith) returns (λ c. search needs)
     (λ c. omega (arith, more (c .before .before .before .before))) (λ c. search needs) (λ c. search needs) loop-again returns-2)

@@ -1,6 +1,6 @@
 use mathlib.Core.Path.{ap, _∙_}
 use Rattle.layout.specs.Layout.{placesOf}
-use Rattle.layout.specs.Theorems.{color-le, waveform-le}
+use Rattle.point.proofs.Parts.{time-within, color-within, waveform-within}
 use Rattle.point.specs.Read.{timeAt, colorAt, nirAt, maybeWaveformAt, pointOf}
 use mir.Syntax.{w32}
 use Rattle.le.specs.Le.{num}
@@ -10,11 +10,23 @@ use borrow.Author.Needs.{needs}
 use Rattle.point.proofs.read_whole.Statement.{statement}
 use Rattle.point.proofs.read_whole.Tie as tie
 
+time-at-requires : tie.Need-time-at-requires
+time-at-requires c κs =
+    let p = c .before .before .before .before .before .before .before .before in
+    let s = p .before .before in
+    rw (p .places-for .ensures) (time-within (s .args .format) _ (s .pre))
+
 color-at-requires : tie.Need-color-at-requires
-color-at-requires c κs = let p = c .before .before .before .before .before .before .before .before .before in rw (p .places-for .ensures) (color-le (p .before .before .args .format))
+color-at-requires c κs =
+    let p = c .before .before .before .before .before .before .before .before .before in
+    let s = p .before .before in
+    rw (p .places-for .ensures) (color-within (s .args .format) _ (s .pre))
 
 waveform-at-requires : tie.Need-waveform-at-requires
-waveform-at-requires c κs = let p = c .before .before .before .before .before .before .before .before .before .before in rw (p .places-for .ensures) (waveform-le (p .before .before .args .format))
+waveform-at-requires c κs =
+    let p = c .before .before .before .before .before .before .before .before .before .before in
+    let s = p .before .before in
+    rw (p .places-for .ensures) (waveform-within (s .args .format) _ (s .pre))
 
 returns : tie.Need-returns
 unfolding placesOf pointOf
@@ -44,5 +56,5 @@ read-whole-spec =
     tie.close
     (tie.spec
     (λ c κs. search needs) (λ c κs. search needs) (λ c κs. search needs) (λ c κs. search needs) (λ c κs. search needs)
-    (λ c κs. search needs) (λ c κs. search needs) (λ c κs. search needs) (λ c κs. search needs) (λ c κs. search needs)
+    (λ c κs. search needs) (λ c κs. search needs) (λ c κs. search needs) (λ c κs. search needs) time-at-requires
     color-at-requires waveform-at-requires (λ c κs. search needs) returns)
