@@ -215,11 +215,7 @@ fn what_cannot_be_read() {
     }
     // Who may read everything cannot be refused.
     let secret = folder.put("secret.las", &plain(1));
-<<<<<<< HEAD
-    fs::set_permissions(&secret, fs::Permissions::from_mode(0)).unwrap();
-=======
     fs::set_permissions(&secret, fs::Permissions::from_mode(0o000)).unwrap();
->>>>>>> rust
     if File::open(&secret).is_err() {
         let (_, err, status) = on(&["check"], &secret);
         assert_eq!(status, Some(2));
