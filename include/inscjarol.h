@@ -14,7 +14,7 @@
  * row[LAS_ROW_NUMBER], is LAS_OK, and then row[LAS_ROW_VALUE] is the result and row[LAS_ROW_RECORD] is 0; or it is one of
  * the LAS_REFUSED_ numbers below, with the value that stands beside it there and, for a record of a file or of a run, its
  * number, counted from 1. A call gives the first refusal in the order in which its sentence names them, and a refused call
- * leaves everything but its row as it was.
+ * leaves everything but its row as it was; of a place made by hand las_file_next says more.
  *
  * Words. Formats, flags and angles are words, uint32_t. Every word means something, so none is refused.
  *   A format has the LAS_FORMAT_ bits and, in bits 16 to 31, its count of extra bytes.
