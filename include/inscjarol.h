@@ -14,7 +14,7 @@
  * row[LAS_ROW_NUMBER], is LAS_OK, and then row[LAS_ROW_VALUE] is the result and row[LAS_ROW_RECORD] is 0; or it is one of
  * the LAS_REFUSED_ numbers below, with the value that stands beside it there and, for a record of a file or of a run, its
  * number, counted from 1. A call gives the first refusal in the order in which its sentence names them, and a refused call
- * leaves everything but its row as it was.
+ * leaves everything but its row as it was; of a place made by hand las_file_next says more.
  *
  * Words. Formats, flags and angles are words, uint32_t. Every word means something, so none is refused.
  *   A format has the LAS_FORMAT_ bits and, in bits 16 to 31, its count of extra bytes.
@@ -28,6 +28,9 @@
  * (int32_t)point[LAS_POINT_X], and a float as its bits, to be copied into a float or double by memcpy, so that every bit
  * pattern is kept. Of what may be missing one number says whether it is there. Read, what is missing is zeros; written, its
  * numbers are ignored, and of a number too wide for its field the low bits count. Texts are bytes and need not end with 0.
+ *
+ * A walker's place and a cursor are numbers that the caller keeps from call to call. Every number in them means something,
+ * so that one made by hand is taken too.
  *
  * The numbers and rules are those of LAS 1.4 R15. "Allowance" is how many VLRs and EVLRs a call may go through before it
  * refuses, to bound its time on hostile files; UINT64_MAX takes every file.
@@ -451,12 +454,13 @@ enum {
     LAS_PLACE_NUMBERS = 7
 };
 
-/* Whether the file is accepted; and in row[LAS_ROW_WHOLE], accepted or refused, how many VLRs and EVLRs were found whole. The value of an accepted file is 0. Refuses as las_header_read does, then with
- * LAS_REFUSED_HEADER_SIZE below the version's; LAS_REFUSED_FORMAT, LAS_REFUSED_COMPRESSED, LAS_REFUSED_FORMAT_FOR_VERSION;
- * LAS_REFUSED_RECORD_LENGTH below the format's; LAS_REFUSED_POINT_OFFSET before the header's end or beyond the file; for each
- * VLR LAS_REFUSED_ALLOWANCE, then LAS_REFUSED_VLR_EXTENT past the point offset; LAS_REFUSED_POINT_EXTENT beyond the file;
- * LAS_REFUSED_EVLR_START before the end of the points or beyond the file; and for each EVLR LAS_REFUSED_ALLOWANCE, then
- * LAS_REFUSED_EVLR_EXTENT beyond the file. */
+/* Whether the file is accepted; and in row[LAS_ROW_WHOLE], accepted or refused, how many VLRs and EVLRs were found whole.
+ * The value of an accepted file is 0. Refuses as las_header_read does, then with LAS_REFUSED_HEADER_SIZE below the
+ * version's; LAS_REFUSED_FORMAT, LAS_REFUSED_COMPRESSED, LAS_REFUSED_FORMAT_FOR_VERSION; LAS_REFUSED_RECORD_LENGTH below
+ * the format's; LAS_REFUSED_POINT_OFFSET before the header's end or beyond the file; for each VLR LAS_REFUSED_ALLOWANCE,
+ * then LAS_REFUSED_VLR_EXTENT past the point offset; LAS_REFUSED_POINT_EXTENT beyond the file; LAS_REFUSED_EVLR_START before
+ * the end of the points or beyond the file; and for each EVLR LAS_REFUSED_ALLOWANCE, then LAS_REFUSED_EVLR_EXTENT beyond
+ * the file. The record number is that of the VLR or EVLR, counted through both kinds. */
 void las_file_check(const uint8_t *file, size_t file_len, uint64_t allowance, uint64_t row[4]);
 
 /* The parts of the file in its order to the front of the table, LAS_ENTRY_NUMBERS numbers each, what lies past them staying;
@@ -502,8 +506,9 @@ void las_file_rewrite(const uint8_t *file, size_t file_len, uint64_t allowance, 
  * where the nearest whole degree is no rank. */
 void las_strict_check(const uint64_t numbers[24], uint64_t row[3]);
 
-/* Makes an old point, one with two-byte flags, new in its place: the class is kept, overlap set exactly for class 12, the other
- * flags moved, the channel 0, the angle scaled, and there is no near infrared. A point with three-byte flags keeps its values. */
+/* Makes an old point, one with two-byte flags, new in its place: the class is kept, overlap set exactly for class 12, the
+ * other flags moved, the channel 0, the angle scaled, and there is no near infrared. A point with three-byte flags keeps its
+ * values. */
 void las_strict_upgraded(uint64_t numbers[24]);
 
 /* Converts a run of count records of format 6 to 10, each with so many extra bytes, strictly into the old format of the pair

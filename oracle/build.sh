@@ -22,7 +22,7 @@ as_published() {
 }
 
 # build_with_las FOLDER PROGRAM: builds the Rust program in the repository's folder PROGRAM, with las from FOLDER and the
-# port's static libraries. Nothing is kept from an earlier build.
+# port's static library. Nothing is kept from an earlier build but what tools/libraries keeps.
 build_with_las() {
     local folder program=$2 sums
     [ -d "$1/src" ] || fail "$1 has no src/ inside"
@@ -59,12 +59,10 @@ END
     cp -r oracle/stubs/. "$build/las/"
 
     # The port.
-    for crate in capi capi_point capi_vlr capi_header capi_header_write capi_file capi_convert; do
-        echo "proving $crate"
-        quietly rt staticlib "$crate"
-    done
+    echo "proving the port"
+    quietly tools/libraries
 
-    # The program. Cargo runs the compiler in its folder, so the place of the libraries is relative to that.
+    # The program. Cargo runs the compiler in its folder, so the place of the library is relative to that.
     echo "building las and $program"
     CARGO_HOME=$PWD/$build/cargo CARGO_TARGET_DIR=$build/build \
         RUSTFLAGS='--cap-lints warn -L native=../target/staticlib' \

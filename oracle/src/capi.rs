@@ -1,8 +1,8 @@
-//! The port: what the static libraries of the boundary crates export.
+//! The port: what its static library exports.
 //!
-//! `rt staticlib` proves a crate and writes its library; the script `run` says where they are.
-//! Nothing checks these declarations against the Rattle source: what changes there is changed here
-//! by hand.
+//! `tools/libraries` proves the boundary crates and writes their library; the script `run` says where
+//! it is. Nothing checks these declarations against the Rattle source: what changes there is changed
+//! here by hand.
 
 use crate::answer::Answer;
 
@@ -15,7 +15,7 @@ pub type Numbers = [u64; 24];
 // Every function here is total: it takes numbers, or a borrowed row that it fills. So each is
 // declared safe. A bool is declared as the byte that carries it: a byte other than 0 and 1 is then
 // a difference and not undefined behaviour.
-#[link(name = "capi", kind = "static")]
+#[link(name = "inscjarol", kind = "static")]
 unsafe extern "C" {
     pub safe fn las_format_new(code: u8, row: &mut Row);
     pub safe fn las_format_extend(format: u32) -> u32;
@@ -53,7 +53,6 @@ unsafe extern "C" {
 
 // A slice crosses as its pointer and its length: that the two belong together is what makes these
 // unsafe, and what the functions below see to.
-#[link(name = "capi_point", kind = "static")]
 unsafe extern "C" {
     fn las_point_read(s: *const u8, len: usize, format: u32, row: &mut Row, numbers: &mut Numbers);
     fn las_point_extra(s: *const u8, len: usize, format: u32, part: &mut [u64; 2]);
@@ -105,7 +104,6 @@ pub struct VlrHead {
     pub description: [u8; 32],
 }
 
-#[link(name = "capi_vlr", kind = "static")]
 unsafe extern "C" {
     fn las_vlr_read(
         s: *const u8,
@@ -184,7 +182,6 @@ pub struct HeaderNumbers {
     pub generating_software: [u8; 32],
 }
 
-#[link(name = "capi_header", kind = "static")]
 unsafe extern "C" {
     fn las_header_read(
         s: *const u8,
@@ -200,7 +197,6 @@ unsafe extern "C" {
     fn las_header_end_of_points(s: *const u8, len: usize, row: &mut Row);
 }
 
-#[link(name = "capi_header_write", kind = "static")]
 unsafe extern "C" {
     fn las_header_write(
         numbers: &[u64; 51],
@@ -275,7 +271,6 @@ pub fn header_write(header: &HeaderNumbers, padding: &[u8], dst: &mut [u8], row:
 /// many are left, the count, and number, value and record number where the file was refused.
 pub type Place = [u64; 7];
 
-#[link(name = "capi_file", kind = "static")]
 unsafe extern "C" {
     fn las_file_check(file: *const u8, len: usize, allowance: u64, row: &mut [u64; 4]);
     fn las_file_parts(
@@ -334,7 +329,6 @@ pub fn file_rewrite(file: &[u8], allowance: u64, dst: &mut [u8], row: &mut Row) 
 }
 
 // A run is a format byte, a count of extra bytes and a count of records.
-#[link(name = "capi_convert", kind = "static")]
 unsafe extern "C" {
     fn las_convert_to_old(
         src: *const u8,

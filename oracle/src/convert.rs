@@ -233,23 +233,23 @@ impl Outcome {
 
 /// Compares a library with the rules on one run after another. Everything is used again.
 struct Comparison<'a, L> {
-    library: &'a L,
+    port: &'a L,
     outcome: Outcome,
     /// What the library is shown, what it should write and what it writes. Both destinations hold
     /// `BEFORE_BYTE` between calls.
     lent: Vec<u8>,
     rules: Vec<u8>,
-    port: Vec<u8>,
+    by_port: Vec<u8>,
 }
 
 impl<'a, L: Library> Comparison<'a, L> {
-    fn new(library: &'a L) -> Comparison<'a, L> {
+    fn new(port: &'a L) -> Comparison<'a, L> {
         Comparison {
-            library,
+            port,
             outcome: Outcome::new(),
             lent: Vec::new(),
             rules: Vec::new(),
-            port: Vec::new(),
+            by_port: Vec::new(),
         }
     }
 
@@ -271,7 +271,7 @@ impl<'a, L: Library> Comparison<'a, L> {
         let end = room + SPARE;
         if self.rules.len() < end {
             self.rules.resize(end, BEFORE_BYTE);
-            self.port.resize(end, BEFORE_BYTE);
+            self.by_port.resize(end, BEFORE_BYTE);
         }
         self.lent.clear();
         self.lent.extend_from_slice(src);
@@ -280,15 +280,15 @@ impl<'a, L: Library> Comparison<'a, L> {
             Down => to_old(src, format, extra, count, dst),
             Up => to_new(src, format, extra, count, dst),
         };
-        let (lent, dst) = (&self.lent[..], &mut self.port[..room]);
+        let (lent, dst) = (&self.lent[..], &mut self.by_port[..room]);
         let run = (format, extra, count);
         let port = capi::row(|row| match way {
-            Down => self.library.to_old(lent, run, dst, row),
-            Up => self.library.to_new(lent, run, dst, row),
+            Down => self.port.to_old(lent, run, dst, row),
+            Up => self.port.to_new(lent, run, dst, row),
         });
         let kept = self.lent == src;
-        let same = rules == port && self.rules[..end] == self.port[..end] && kept;
-        let (expected, found) = (&self.rules, &self.port);
+        let same = rules == port && self.rules[..end] == self.by_port[..end] && kept;
+        let (expected, found) = (&self.rules, &self.by_port);
         self.outcome.reports[way as usize].check(same, || {
             let at = expected.iter().zip(found).position(|(a, b)| a != b);
             let (size, first) = (src.len(), &src[..src.len().min(100)]);
@@ -307,10 +307,10 @@ impl<'a, L: Library> Comparison<'a, L> {
         }
         if let Some(written) = written {
             written.clear();
-            written.extend_from_slice(&self.port[..filled]);
+            written.extend_from_slice(&self.by_port[..filled]);
         }
         self.rules[..filled].fill(BEFORE_BYTE);
-        self.port[..if same { filled } else { end }].fill(BEFORE_BYTE);
+        self.by_port[..if same { filled } else { end }].fill(BEFORE_BYTE);
     }
 
     /// A run with just the room that it wants.

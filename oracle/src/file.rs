@@ -151,7 +151,7 @@ impl Outcome {
 
 /// Compares a library with the rules on one file after another. Everything is used again.
 struct Comparison<'a, L> {
-    library: &'a L,
+    port: &'a L,
     outcome: Outcome,
     /// The number of the whole file, itself, and a copy of its bytes in which the damage is done.
     index: u64,
@@ -193,9 +193,9 @@ impl Lent<'_> {
 }
 
 impl<'a, L: Library> Comparison<'a, L> {
-    fn new(library: &'a L) -> Comparison<'a, L> {
+    fn new(port: &'a L) -> Comparison<'a, L> {
         Comparison {
-            library,
+            port,
             outcome: Outcome::new(),
             index: 0,
             whole: Whole::default(),
@@ -310,7 +310,7 @@ impl<'a, L: Library> Comparison<'a, L> {
     fn compare_check(&mut self, lent: Lent, answer: Answer) {
         let rules = self.found.row(answer);
         let mut port = [u64::MAX; 4];
-        self.library.check(lent.file, lent.allowance, &mut port);
+        self.port.check(lent.file, lent.allowance, &mut port);
         self.count(0, rules == port, lent, || {
             format!("document 01 {rules:?}, port {port:?}")
         });
@@ -339,7 +339,7 @@ impl<'a, L: Library> Comparison<'a, L> {
         self.outcome.answered[22] += u64::from(rules.number == 22);
         let filled = if rules.number == 0 { wanted } else { 0 };
         let table = &mut self.table[..size];
-        let port = capi::row(|row| self.library.parts(lent.file, lent.allowance, table, row));
+        let port = capi::row(|row| self.port.parts(lent.file, lent.allowance, table, row));
         let same = rules == port
             && self.table[..filled] == self.parts.as_flattened()[..filled]
             && self.table[filled..] == self.table_before[filled..];
@@ -364,7 +364,7 @@ impl<'a, L: Library> Comparison<'a, L> {
             _ => lent.file.len(),
         };
         let mut place = [BEFORE; 7];
-        self.library.walker(lent.file, lent.allowance, &mut place);
+        self.port.walker(lent.file, lent.allowance, &mut place);
         self.outcome.answered[27] += u64::from(answer.number == 0);
         let mut past = 0;
         let mut difference = None;
@@ -378,7 +378,7 @@ impl<'a, L: Library> Comparison<'a, L> {
             };
             let mut numbers = [BEFORE; 24];
             let row = capi::row(|row| {
-                self.library
+                self.port
                     .next(&lent.file[..shown], &mut place, row, &mut numbers)
             });
             if rules != (row, numbers) {
@@ -425,7 +425,7 @@ impl<'a, L: Library> Comparison<'a, L> {
         }
         let filled = self.written.len();
         let dst = &mut self.dst[..size];
-        let port = capi::row(|row| self.library.rewrite(lent.file, lent.allowance, dst, row));
+        let port = capi::row(|row| self.port.rewrite(lent.file, lent.allowance, dst, row));
         let same = rules == port
             && self.dst[..filled] == self.written
             && self.dst[filled..] == self.dst_before[filled..];
