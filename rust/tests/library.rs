@@ -43,10 +43,12 @@ fn the_parts_of_the_example() {
     let bytes = two_points();
     assert_eq!(bytes.len(), 327);
     let file = File::check(&bytes).unwrap();
-    let mut listed = String::from("kind start length\n");
-    for part in file.parts() {
-        listed += &format!("{} {} {}\n", part.kind, part.start, part.len);
-    }
+    let parts = file.parts();
+    let listed = parts.map(|part| format!("{} {} {}\n", part.kind, part.start, part.len));
+    let listed: String = [String::from("kind start length\n")]
+        .into_iter()
+        .chain(listed)
+        .collect();
     assert_eq!(listed, TWO_POINTS);
     assert_eq!(file.parts().count(), 4);
     assert_eq!(file.records(), 1);

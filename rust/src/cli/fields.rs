@@ -60,7 +60,7 @@ const FIELDS: &[(&str, Has, Get)] = &[
     ("intensity", ALWAYS, |p| whole(p.intensity)),
     ("return_number", ALWAYS, |p| whole(p.flags.return_number())),
     ("number_of_returns", ALWAYS, |p| whole(p.flags.number_of_returns())),
-    ("scan_direction", ALWAYS, |p| Cell::Is(p.flags.scan_direction() == ScanDirection::LeftToRight)),
+    ("scan_direction", ALWAYS, |p| whole(u8::from(p.flags.scan_direction() == ScanDirection::LeftToRight))),
     ("edge_of_flight_line", ALWAYS, |p| Cell::Is(p.flags.is_edge_of_flight_line())),
     ("classification", ALWAYS, |p| whole(p.flags.class())),
     ("synthetic", ALWAYS, |p| Cell::Is(p.flags.is_synthetic())),
