@@ -59,7 +59,7 @@ END
     cp -r oracle/stubs/. "$build/las/"
 
     # The port.
-    for crate in capi capi_point capi_vlr capi_header capi_header_write capi_file capi_convert; do
+    for crate in capi capi_point capi_vlr capi_header capi_header_write capi_file capi_walker capi_convert; do
         echo "proving $crate"
         quietly rt staticlib "$crate"
     done
