@@ -267,10 +267,6 @@ pub fn header_write(header: &HeaderNumbers, padding: &[u8], dst: &mut [u8], row:
     }
 }
 
-/// A walker's place, as the crate `capi_file` keeps it: the format's word, where the next record is, how
-/// many are left, the count, and number, value and record number where the file was refused.
-pub type Place = [u64; 7];
-
 unsafe extern "C" {
     fn las_file_check(file: *const u8, len: usize, allowance: u64, row: &mut [u64; 4]);
     fn las_file_parts(
@@ -280,14 +276,6 @@ unsafe extern "C" {
         table: *mut u64,
         table_len: usize,
         row: &mut Row,
-    );
-    fn las_file_walker(file: *const u8, len: usize, allowance: u64, place: &mut Place);
-    fn las_file_next(
-        file: *const u8,
-        len: usize,
-        place: &mut Place,
-        row: &mut Row,
-        numbers: &mut Numbers,
     );
     fn las_file_rewrite(
         file: *const u8,
@@ -312,6 +300,27 @@ pub fn file_parts(file: &[u8], allowance: u64, table: &mut [u64], row: &mut Row)
     unsafe { las_file_parts(file.as_ptr(), file.len(), allowance, to, to_len, row) }
 }
 
+pub fn file_rewrite(file: &[u8], allowance: u64, dst: &mut [u8], row: &mut Row) {
+    let (to, to_len) = (dst.as_mut_ptr(), dst.len());
+    // SAFETY: both pointers go with the lengths of their borrowed slices.
+    unsafe { las_file_rewrite(file.as_ptr(), file.len(), allowance, to, to_len, row) }
+}
+
+/// A walker's place, as the crate `capi_walker` keeps it: the format's word, where the next record is, how
+/// many are left, the count, and number, value and record number where the file was refused.
+pub type Place = [u64; 7];
+
+unsafe extern "C" {
+    fn las_file_walker(file: *const u8, len: usize, allowance: u64, place: &mut Place);
+    fn las_file_next(
+        file: *const u8,
+        len: usize,
+        place: &mut Place,
+        row: &mut Row,
+        numbers: &mut Numbers,
+    );
+}
+
 pub fn file_walker(file: &[u8], allowance: u64, place: &mut Place) {
     // SAFETY: pointer and length are those of one borrowed slice.
     unsafe { las_file_walker(file.as_ptr(), file.len(), allowance, place) }
@@ -320,12 +329,6 @@ pub fn file_walker(file: &[u8], allowance: u64, place: &mut Place) {
 pub fn file_next(file: &[u8], place: &mut Place, row: &mut Row, numbers: &mut Numbers) {
     // SAFETY: pointer and length are those of one borrowed slice.
     unsafe { las_file_next(file.as_ptr(), file.len(), place, row, numbers) }
-}
-
-pub fn file_rewrite(file: &[u8], allowance: u64, dst: &mut [u8], row: &mut Row) {
-    let (to, to_len) = (dst.as_mut_ptr(), dst.len());
-    // SAFETY: both pointers go with the lengths of their borrowed slices.
-    unsafe { las_file_rewrite(file.as_ptr(), file.len(), allowance, to, to_len, row) }
 }
 
 // A run is a format byte, a count of extra bytes and a count of records.

@@ -1,17 +1,14 @@
 -- `fields` and `Layout` walk the one table.
-use Prim.Native.Nat.{_≤_}
 use mathlib.Core.Path.{_≡_, refl, ap, _∙_}
 use mathlib.Core.Bool.{Bool, true, false, cond}
 use mathlib.Core.List.{List, [], _∷_, _++_}
-use native.Mathlib.Omega.{arith}
 use Rattle.format.specs.declared.Format.{Format}
 use Rattle.format.specs.declared.Field.{Field}
 use Rattle.format.specs.declared.Field.the-variants.{X, Y, Z, Intensity, Flags, UserData, ScanAngle, PointSourceId, GpsTime, Color, Nir, Waveform, ExtraBytes}
 use Rattle.format.specs.Fields.{only, restOf, fieldsOf}
 use Rattle.layout.specs.declared.Slot.{Slot}
 use Rattle.layout.specs.declared.Slot.the-variants.{Some, None}
-use Rattle.format.specs.Laws.{fixed-le}
-use Rattle.layout.specs.Layout.{slotOf, slotsOf, placesOf}
+use Rattle.layout.specs.Layout.{slotOf, slotsOf}
 
 -- the fields that are there, as the Rust's `flatten` gives them
 abbrev pub present : List Slot → List Field
@@ -51,12 +48,3 @@ module _ (f : Format) where
   fields-are =
       ap (λ (l : List Field). X ∷ Y ∷ Z ∷ Intensity ∷ Flags ∷ cond (f .«is_extended») UserData ScanAngle ∷ cond (f .«is_extended») ScanAngle UserData ∷ PointSourceId ∷ l) rest
       ∙ ap (λ (l : List Field). X ∷ Y ∷ Z ∷ Intensity ∷ Flags ∷ l) (order (f .«is_extended»))
-
-  -- the optional fields stand within the first 67 bytes
-  pub color-le : placesOf f .color ≤ 67
-  unfolding placesOf
-  color-le = omega (arith, fixed-le f)
-
-  pub waveform-le : placesOf f .waveform ≤ 67
-  unfolding placesOf
-  waveform-le = omega (arith, fixed-le f)

@@ -62,16 +62,17 @@ pub enum MaybeNir {
     None,
 }
 
-// A point without its extra bytes, which stay in the caller's slice.
+// A point without its extra bytes, which stay in the caller's slice. The source id stands before the flags, unlike in the Rust: so
+// flags and angle are eight bytes that overlap with nothing of a refusal, and stay in a register where a point is read and written.
 pub struct Point {
     pub x: i32,
     pub y: i32,
     pub z: i32,
     pub intensity: u16,
+    pub point_source_id: u16,
     pub flags: Flags,
     pub scan_angle: ScanAngle,
     pub user_data: u8,
-    pub point_source_id: u16,
     pub gps_time: MaybeTime,
     pub color: MaybeColor,
     pub waveform: MaybeWaveform,

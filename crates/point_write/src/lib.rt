@@ -70,30 +70,70 @@ fn write_rest(point: Point, extra: &[u8], dst: &mut [u8], format: Format, at: us
     ensures { λ _. ⌜ now (dst .exit) ≡ sets (now (dst .entry)) at (joined format point (now (extra .entry)) (restOf format)) ⌝ }
 {
     let of_time = point.gps_time;
-    let time = time_bytes(of_time);
-    let color_at = put_when(dst, at, format.has_gps_time, &time);
+    let color_at = put_time(dst, at, format.has_gps_time, of_time);
     let of_color = point.color;
-    let color = color_bytes(of_color);
-    let nir_at = put_when(dst, color_at, format.has_color, &color);
+    let nir_at = put_color(dst, color_at, format.has_color, of_color);
     let of_nir = point.nir;
-    let nir = nir_bytes(of_nir);
-    let waveform_at = put_when(dst, nir_at, format.has_nir, &nir);
+    let waveform_at = put_nir(dst, nir_at, format.has_nir, of_nir);
     let of_waveform = point.waveform;
-    let waveform = waveform_bytes(of_waveform);
-    let extra_at = put_when(dst, waveform_at, format.has_waveform, &waveform);
+    let extra_at = put_waveform(dst, waveform_at, format.has_waveform, of_waveform);
     lent::put(&mut dst[extra_at..], extra);
 }
 
-// The bytes at place at, where the format has them; the place after them.
-fn put_when(dst: &mut [u8], at: usize, has: bool, bytes: &[u8]) -> usize
-    requires { ⌜ at + length (onlyBytes has (now bytes)) ≤ length (now dst) ⌝ }
-    ensures { λ r. ⌜ (r ≡ at + length (onlyBytes has (now (bytes .entry)))) × (now (dst .exit) ≡ sets (now (dst .entry)) at (onlyBytes has (now (bytes .entry)))) ⌝ }
+// A piece at place at, where the format has it; the place after it.
+
+fn put_time(dst: &mut [u8], at: usize, has: bool, time: MaybeTime) -> usize
+    requires { ⌜ at + length (onlyBytes has (timeBytes time)) ≤ length (now dst) ⌝ }
+    ensures { λ r. ⌜ (r ≡ at + length (onlyBytes has (timeBytes time))) × (now (dst .exit) ≡ sets (now (dst .entry)) at (onlyBytes has (timeBytes time))) ⌝ }
 {
     if has {
-        lent::put(&mut dst[at..], bytes);
-        return at + bytes.len();
+        let bytes = time_bytes(time);
+        return put_at(dst, at, &bytes);
     }
     at
+}
+
+fn put_color(dst: &mut [u8], at: usize, has: bool, color: MaybeColor) -> usize
+    requires { ⌜ at + length (onlyBytes has (colorBytes color)) ≤ length (now dst) ⌝ }
+    ensures { λ r. ⌜ (r ≡ at + length (onlyBytes has (colorBytes color))) × (now (dst .exit) ≡ sets (now (dst .entry)) at (onlyBytes has (colorBytes color))) ⌝ }
+{
+    if has {
+        let bytes = color_bytes(color);
+        return put_at(dst, at, &bytes);
+    }
+    at
+}
+
+fn put_nir(dst: &mut [u8], at: usize, has: bool, nir: MaybeNir) -> usize
+    requires { ⌜ at + length (onlyBytes has (nirBytes nir)) ≤ length (now dst) ⌝ }
+    ensures { λ r. ⌜ (r ≡ at + length (onlyBytes has (nirBytes nir))) × (now (dst .exit) ≡ sets (now (dst .entry)) at (onlyBytes has (nirBytes nir))) ⌝ }
+{
+    if has {
+        let bytes = nir_bytes(nir);
+        return put_at(dst, at, &bytes);
+    }
+    at
+}
+
+fn put_waveform(dst: &mut [u8], at: usize, has: bool, waveform: MaybeWaveform) -> usize
+    requires { ⌜ at + length (onlyBytes has (waveformBytes waveform)) ≤ length (now dst) ⌝ }
+    ensures { λ r. ⌜ (r ≡ at + length (onlyBytes has (waveformBytes waveform))) × (now (dst .exit) ≡ sets (now (dst .entry)) at (onlyBytes has (waveformBytes waveform))) ⌝ }
+{
+    if has {
+        let bytes = waveform_bytes(waveform);
+        return put_at(dst, at, &bytes);
+    }
+    at
+}
+
+// Some bytes at place at; the place after them. The part that is lent is as long as they are, so that what writes them tests nothing.
+fn put_at(dst: &mut [u8], at: usize, bytes: &[u8]) -> usize
+    requires { ⌜ at + length (now bytes) ≤ length (now dst) ⌝ }
+    ensures { λ r. ⌜ (r ≡ at + length (now (bytes .entry))) × (now (dst .exit) ≡ sets (now (dst .entry)) at (now (bytes .entry))) ⌝ }
+{
+    let end = at + bytes.len();
+    lent::put(&mut dst[at..end], bytes);
+    end
 }
 
 // The bytes before the time in an extended format.

@@ -43,77 +43,77 @@ Going s d at rest = (at + length rest ≤ length d) × (sets d at rest ≡ sets 
 start : (s : tie.Start) → s .args .at + length (time s ++ after-time s) ≤ length (s .args .dst .now)
 start s = rw (rest-is (s .args .format) (s .args .point) (s .args .extra .now)) at (s .pre)
 
-past-time : (c : tie.After-put-when) → Going (c .before .before .before .before .before .before) (c .put-when .last .0) (c .put-when .result) (after-time (c .before .before .before .before .before .before))
+past-time : (c : tie.After-put-time) → Going (c .before .before .before .before) (c .put-time .last .0) (c .put-time .result) (after-time (c .before .before .before .before))
 past-time c =
-    let s = c .before .before .before .before .before .before in
-    let e = rw (c .before .before .before .time-bytes .ensures) at (c .put-when .ensures) in
-    next (s .args .dst .now) (time s) (after-time s) (c .put-when .last .0) (s .args .at) (c .put-when .result) (start s) (e .0) (e .1)
+    let s = c .before .before .before .before in
+    let e = c .put-time .ensures in
+    next (s .args .dst .now) (time s) (after-time s) (c .put-time .last .0) (s .args .at) (c .put-time .result) (start s) (e .0) (e .1)
 
-past-color : (c : tie.After-put-when2) → Going (c .before .before .before .before .before .before .before .before .before .before .before .before) (c .put-when2 .last .0) (c .put-when2 .result) (after-color (c .before .before .before .before .before .before .before .before .before .before .before .before))
+past-color : (c : tie.After-put-color) → Going (c .before .before .before .before .before .before .before .before) (c .put-color .last .0) (c .put-color .result) (after-color (c .before .before .before .before .before .before .before .before))
 past-color c =
-    let s = c .before .before .before .before .before .before .before .before .before .before .before .before in
-    let b = c .before .before .before .before .before .before in
+    let s = c .before .before .before .before .before .before .before .before in
+    let b = c .before .before .before .before in
     let g = past-time b in
-    let e = rw (c .before .before .before .color-bytes .ensures) at (c .put-when2 .ensures) in
-    let h = next (b .put-when .last .0) (color s) (after-color s) (c .put-when2 .last .0) (b .put-when .result) (c .put-when2 .result) (g .0) (e .0) (e .1) in
+    let e = c .put-color .ensures in
+    let h = next (b .put-time .last .0) (color s) (after-color s) (c .put-color .last .0) (b .put-time .result) (c .put-color .result) (g .0) (e .0) (e .1) in
     (h .0, h .1 ∙ g .1)
 
-past-nir : (c : tie.After-put-when3) → Going (c .before .before .before .before .before .before .before .before .before .before .before .before .before .before .before .before .before .before) (c .put-when3 .last .0) (c .put-when3 .result) (after-nir (c .before .before .before .before .before .before .before .before .before .before .before .before .before .before .before .before .before .before))
+past-nir : (c : tie.After-put-nir) → Going (c .before .before .before .before .before .before .before .before .before .before .before .before) (c .put-nir .last .0) (c .put-nir .result) (after-nir (c .before .before .before .before .before .before .before .before .before .before .before .before))
 past-nir c =
-    let s = c .before .before .before .before .before .before .before .before .before .before .before .before .before .before .before .before .before .before in
-    let b = c .before .before .before .before .before .before in
+    let s = c .before .before .before .before .before .before .before .before .before .before .before .before in
+    let b = c .before .before .before .before in
     let g = past-color b in
-    let e = rw (c .before .before .before .nir-bytes .ensures) at (c .put-when3 .ensures) in
-    let h = next (b .put-when2 .last .0) (nir s) (after-nir s) (c .put-when3 .last .0) (b .put-when2 .result) (c .put-when3 .result) (g .0) (e .0) (e .1) in
+    let e = c .put-nir .ensures in
+    let h = next (b .put-color .last .0) (nir s) (after-nir s) (c .put-nir .last .0) (b .put-color .result) (c .put-nir .result) (g .0) (e .0) (e .1) in
     (h .0, h .1 ∙ g .1)
 
-past-waveform : (c : tie.After-put-when4) → Going (c .before .before .before .before .before .before .before .before .before .before .before .before .before .before .before .before .before .before .before .before .before .before .before .before) (c .put-when4 .last .0) (c .put-when4 .result) (after-waveform (c .before .before .before .before .before .before .before .before .before .before .before .before .before .before .before .before .before .before .before .before .before .before .before .before))
+past-waveform : (c : tie.After-put-waveform) → Going (c .before .before .before .before .before .before .before .before .before .before .before .before .before .before .before .before) (c .put-waveform .last .0) (c .put-waveform .result) (after-waveform (c .before .before .before .before .before .before .before .before .before .before .before .before .before .before .before .before))
 past-waveform c =
-    let s = c .before .before .before .before .before .before .before .before .before .before .before .before .before .before .before .before .before .before .before .before .before .before .before .before in
-    let b = c .before .before .before .before .before .before in
+    let s = c .before .before .before .before .before .before .before .before .before .before .before .before .before .before .before .before in
+    let b = c .before .before .before .before in
     let g = past-nir b in
-    let e = rw (c .before .before .before .waveform-bytes .ensures) at (c .put-when4 .ensures) in
-    let h = next (b .put-when3 .last .0) (waveform s) (after-waveform s) (c .put-when4 .last .0) (b .put-when3 .result) (c .put-when4 .result) (g .0) (e .0) (e .1) in
+    let e = c .put-waveform .ensures in
+    let h = next (b .put-nir .last .0) (waveform s) (after-waveform s) (c .put-waveform .last .0) (b .put-nir .result) (c .put-waveform .result) (g .0) (e .0) (e .1) in
     (h .0, h .1 ∙ g .1)
 
-put-when-requires : tie.Need-put-when-requires
-put-when-requires c κs =
-    let s = c .before .before .before .before .before in
-    rw (c .before .before .time-bytes .ensures) (room (s .args .dst .now) (time s) (after-time s) (s .args .at) (start s))
+put-time-requires : tie.Need-put-time-requires
+put-time-requires c κs =
+    let s = c .before .before .before in
+    room (s .args .dst .now) (time s) (after-time s) (s .args .at) (start s)
 
-put-when-requires-2 : tie.Need-put-when-requires-2
-put-when-requires-2 c κs =
-    let s = c .before .before .before .before .before .before .before .before .before .before .before in
-    let b = c .before .before .before .before .before in
-    rw (c .before .before .color-bytes .ensures) (room (b .put-when .last .0) (color s) (after-color s) (b .put-when .result) (past-time b .0))
+put-color-requires : tie.Need-put-color-requires
+put-color-requires c κs =
+    let b = c .before .before .before in
+    let s = b .before .before .before .before in
+    room (b .put-time .last .0) (color s) (after-color s) (b .put-time .result) (past-time b .0)
 
-put-when-requires-3 : tie.Need-put-when-requires-3
-put-when-requires-3 c κs =
-    let s = c .before .before .before .before .before .before .before .before .before .before .before .before .before .before .before .before .before in
-    let b = c .before .before .before .before .before in
-    rw (c .before .before .nir-bytes .ensures) (room (b .put-when2 .last .0) (nir s) (after-nir s) (b .put-when2 .result) (past-color b .0))
+put-nir-requires : tie.Need-put-nir-requires
+put-nir-requires c κs =
+    let b = c .before .before .before in
+    let s = b .before .before .before .before .before .before .before .before in
+    room (b .put-color .last .0) (nir s) (after-nir s) (b .put-color .result) (past-color b .0)
 
-put-when-requires-4 : tie.Need-put-when-requires-4
-put-when-requires-4 c κs =
-    let s = c .before .before .before .before .before .before .before .before .before .before .before .before .before .before .before .before .before .before .before .before .before .before .before in
-    let b = c .before .before .before .before .before in
-    rw (c .before .before .waveform-bytes .ensures) (room (b .put-when3 .last .0) (waveform s) (after-waveform s) (b .put-when3 .result) (past-nir b .0))
+put-waveform-requires : tie.Need-put-waveform-requires
+put-waveform-requires c κs =
+    let b = c .before .before .before in
+    let s = b .before .before .before .before .before .before .before .before .before .before .before .before in
+    room (b .put-nir .last .0) (waveform s) (after-waveform s) (b .put-nir .result) (past-nir b .0)
 
 -- the last piece, the extra bytes, starts within what is left
-last-fits : (g : tie.After-put-when4) → g .put-when4 .result ≤ length (g .put-when4 .last .0)
+last-fits : (g : tie.After-put-waveform) → g .put-waveform .result ≤ length (g .put-waveform .last .0)
 last-fits g = omega (arith, past-waveform g .0)
 
 returns : tie.Need-returns
 returns c =
     let g = c .before .before .before .before .before .before in
-    let s = g .before .before .before .before .before .before .before .before .before .before .before .before .before .before .before .before .before .before .before .before .before .before .before .before in
+    let s = g .before .before .before .before .before .before .before .before .before .before .before .before .before .before .before .before in
     let w = past-waveform g in
-    tail (g .put-when4 .last .0) (s .args .extra .now) (c .before .before .put .last .0) (g .put-when4 .result) (c .before .before .put .result) (w .0) (c .before .before .put .ensures)
+    tail (g .put-waveform .last .0) (s .args .extra .now) (c .before .before .put .last .0) (g .put-waveform .result) (c .before .before .put .result) (w .0) (c .before .before .put .ensures)
     ∙ w .1 ∙ ap (sets (s .args .dst .now) (s .args .at)) (sym (rest-is (s .args .format) (s .args .point) (s .args .extra .now)))
 
 pub write-rest-spec : {M : Type 1} → statement M
 write-rest-spec =
     tie.close
     (tie.spec
-    (λ c κs. search needs) (λ c. search needs) put-when-requires (λ c κs. search needs) (λ c. search needs) put-when-requires-2 (λ c κs. search needs) (λ c. search needs) put-when-requires-3 (λ c κs. search needs) (λ c. search needs) put-when-requires-4
-    (λ c. last-fits (c .before .before)) (λ c. last-fits (c .before .before)) (λ c. search needs) (λ c κs. search needs) (λ c. search needs) returns)
+    put-time-requires put-color-requires put-nir-requires put-waveform-requires (λ c. last-fits (c .before .before))
+    (λ c. last-fits (c .before .before)) (λ c. search needs) (λ c κs. search needs) (λ c. search needs) returns)

@@ -4,9 +4,9 @@ use lib.ListN.{getD, length}
 use borrow.Author.Needs.{needs}
 use borrow.Author.Tests.{eq-eqb, ne-eqb}
 use Rattle.walker.specs.Walk.{recordOf}
-use Rattle.capi_file.specs.Rows.{recordPart}
-use Rattle.capi_file.proofs.las_file_record.Statement.{statement}
-use Rattle.capi_file.proofs.las_file_record.Tie as tie
+use Rattle.capi_walker.specs.Rows.{recordPart}
+use Rattle.capi_walker.proofs.las_file_record.Statement.{statement}
+use Rattle.capi_walker.proofs.las_file_record.Tie as tie
 
 returns : tie.Need-returns
 unfolding recordPart

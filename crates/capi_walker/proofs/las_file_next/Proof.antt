@@ -4,9 +4,9 @@ use borrow.Author.Tests.{eq-eqb, ne-eqb}
 use Rattle.walker.specs.declared.Walked.{Walked}
 use Rattle.walker.specs.declared.Took.{Took}
 use Rattle.walker.specs.Walk.{tookOf}
-use Rattle.capi_file.specs.Rows.{tookRow, nextRow}
-use Rattle.capi_file.proofs.las_file_next.Statement.{statement}
-use Rattle.capi_file.proofs.las_file_next.Tie as tie
+use Rattle.capi_walker.specs.Rows.{tookRow, nextRow}
+use Rattle.capi_walker.proofs.las_file_next.Statement.{statement}
+use Rattle.capi_walker.proofs.las_file_next.Tie as tie
 
 returns : tie.Need-returns
 unfolding nextRow

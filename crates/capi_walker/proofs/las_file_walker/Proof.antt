@@ -1,8 +1,8 @@
 use mathlib.Core.Path.{ap, _∙_}
 use borrow.Author.Needs.{needs}
-use Rattle.capi_file.specs.Rows.{placeNumbers}
-use Rattle.capi_file.proofs.las_file_walker.Statement.{statement}
-use Rattle.capi_file.proofs.las_file_walker.Tie as tie
+use Rattle.capi_walker.specs.Rows.{placeNumbers}
+use Rattle.capi_walker.proofs.las_file_walker.Statement.{statement}
+use Rattle.capi_walker.proofs.las_file_walker.Tie as tie
 
 returns : tie.Need-returns
 returns c = c .place-numbers .ensures ∙ ap placeNumbers (c .before .begin .ensures)

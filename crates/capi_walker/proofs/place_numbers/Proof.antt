@@ -1,8 +1,8 @@
 use mathlib.Core.List.{[], _∷_}
 use borrow.Author.Needs.{needs}
-use Rattle.capi_file.specs.Rows.{placeNumbers}
-use Rattle.capi_file.proofs.place_numbers.Statement.{statement}
-use Rattle.capi_file.proofs.place_numbers.Tie as tie
+use Rattle.capi_walker.specs.Rows.{placeNumbers}
+use Rattle.capi_walker.proofs.place_numbers.Statement.{statement}
+use Rattle.capi_walker.proofs.place_numbers.Tie as tie
 
 returns : tie.Need-returns
 unfolding placeNumbers

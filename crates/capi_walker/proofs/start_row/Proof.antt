@@ -1,8 +1,8 @@
 use mathlib.Core.Path.{sym, ap, _∙_}
 use borrow.Author.Needs.{needs}
-use Rattle.capi_file.specs.Rows.{startRow}
-use Rattle.capi_file.proofs.start_row.Statement.{statement}
-use Rattle.capi_file.proofs.start_row.Tie as tie
+use Rattle.capi_walker.specs.Rows.{startRow}
+use Rattle.capi_walker.proofs.start_row.Statement.{statement}
+use Rattle.capi_walker.proofs.start_row.Tie as tie
 
 returns : tie.Need-returns
 returns c = sym (ap startRow (c .enum-told .given .1))

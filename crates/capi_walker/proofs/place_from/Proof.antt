@@ -1,9 +1,9 @@
 use lib.ListN.{getD}
 use borrow.Author.Needs.{needs}
 use Rattle.walker.specs.declared.Start.the-variants.{Accepted}
-use Rattle.capi_file.specs.Rows.{placeFrom}
-use Rattle.capi_file.proofs.place_from.Statement.{statement}
-use Rattle.capi_file.proofs.place_from.Tie as tie
+use Rattle.capi_walker.specs.Rows.{placeFrom}
+use Rattle.capi_walker.proofs.place_from.Statement.{statement}
+use Rattle.capi_walker.proofs.place_from.Tie as tie
 
 returns : tie.Need-returns
 unfolding placeFrom
