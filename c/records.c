@@ -65,7 +65,7 @@ static void test_extended_point(void) {
     CHECK((int32_t)read[LAS_POINT_X] == -2);
     CHECK(las_angle_to_scaled((uint32_t)read[LAS_POINT_SCAN_ANGLE]) == -500);
 
-    /* refused, in the order 8, 23, 22; two bytes past the record's are not looked at */
+    /* refused, in the order 8, 23, 22, and reading 8, then 1 */
     fill_bytes(dst, sizeof dst);
     las_point_write(point, extra, 2, format | LAS_FORMAT_EXTRA(65535), nothing, 0, row);
     CHECK(told(row, LAS_REFUSED_RECORD_LENGTH, 67 + 65535, 0));

@@ -427,7 +427,7 @@ enum {
     LAS_PART_EVLR = 4
 };
 
-/* A cursor over the parts, which the caller keeps between calls. */
+/* The places of the numbers of a cursor over the parts, which the caller keeps between calls. */
 enum {
     LAS_CURSOR_STAGE = 0, /* what is next: 0 the header, 1 a VLR or the gap after them, 2 the points, 3 the gap after them,
                              4 an EVLR or the gap after them; above 4 is 4 */
@@ -444,10 +444,10 @@ enum {
 
 /* The places of the numbers of a walker's place, which the caller keeps between calls. */
 enum {
-    LAS_PLACE_FORMAT = 0, /* of every point of the file, a format word: the header's record length is its length */
-    LAS_PLACE_AT = 1,     /* the first byte of the next record */
-    LAS_PLACE_LEFT = 2,   /* how many points are left */
-    LAS_PLACE_COUNT = 3,  /* the file's count of points */
+    LAS_PLACE_FORMAT = 0,  /* of every point of the file, a format word: the header's record length is its length */
+    LAS_PLACE_AT = 1,      /* the first byte of the next record */
+    LAS_PLACE_LEFT = 2,    /* how many points are left */
+    LAS_PLACE_COUNT = 3,   /* the file's count of points */
     LAS_PLACE_REFUSED = 4, /* number, value and record number where the file was refused; else three zeros */
     LAS_PLACE_VALUE = 5,
     LAS_PLACE_RECORD = 6,
