@@ -1,7 +1,7 @@
 //! The proved library's calls, each behind a safe function. This is the only file of the crate with `unsafe`.
 //!
-//! Nothing checks these declarations against the library's source: what changes there is changed here by hand. Every call
-//! is total and proved so: for all numbers and all bytes that it is lent it ends, reads and writes nothing outside of
+//! These declarations repeat the library's source by hand; `tests/declarations.rs` holds them against it. Every call is
+//! total and proved so: for all numbers and all bytes that it is lent it ends, reads and writes nothing outside of
 //! them, and writes its row whole. So all that Rust has to see to is that what it lends is there: references are, and a
 //! slice's pointer goes with the slice's own length.
 #![allow(unsafe_code)]

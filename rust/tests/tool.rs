@@ -198,11 +198,30 @@ fn the_standard_input() {
 }
 
 #[test]
+fn the_standard_input_from_a_file() {
+    let folder = Folder::new("stdin");
+    let path = folder.join("huge.las");
+    huge(&path);
+    let open = || File::open(&path).unwrap();
+    let begun = Instant::now();
+    let output = tool().args(["check", "-"]).stdin(open()).output().unwrap();
+    assert!(told(&output).0.starts_with("standard input: accepted"));
+    assert!(begun.elapsed() < Duration::from_secs(10));
+    // From the place where it is.
+    let bytes = [b"before".as_slice(), &two_points()].concat();
+    let mut file = File::open(folder.put("later.las", &bytes)).unwrap();
+    file.read_exact(&mut [0; 6]).unwrap();
+    let output = tool().args(["parts", "-"]).stdin(file).output().unwrap();
+    assert_eq!(told(&output).0, TWO_POINTS);
+}
+
+#[test]
 fn what_cannot_be_read() {
     let folder = Folder::new("unreadable");
     for (path, words) in [
         (folder.join("missing.las"), "there is no such file"),
         (folder.join("."), "it is a folder, not a file"),
+        ("/dev/zero".into(), "it is a device, not a file"),
     ] {
         for command in ["check", "parts", "info", "points"] {
             let (out, err, status) = on(&[command], &path);

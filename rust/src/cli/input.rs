@@ -2,9 +2,10 @@
 
 use super::{os::Map, output::Output, Failure, Status};
 use std::{
-    ffi::OsStr,
+    ffi::{OsStr, OsString},
     fs::{self, File},
-    io::{self, Read},
+    io::{self, Read, Seek},
+    os::unix::{fs::FileTypeExt, io::AsFd},
     path::Path,
 };
 
@@ -18,32 +19,34 @@ impl Input {
     /// Opens a file; `-` is the standard input.
     pub(crate) fn open(name: &OsStr) -> io::Result<Input> {
         if name == "-" {
-            let mut bytes = Vec::new();
-            io::stdin().lock().read_to_end(&mut bytes)?;
-            return Ok(Input::Read(bytes));
+            return Input::of(File::from(io::stdin().as_fd().try_clone_to_owned()?));
         }
         let path = Path::new(name);
-        // A directory can be opened, and a pipe nobody writes to waits, so that is asked first.
-        if fs::metadata(path)?.is_dir() {
-            return Err(io::Error::new(
-                io::ErrorKind::Other,
-                "it is a folder, not a file",
-            ));
+        // A folder can be opened, and a device need not end: what it is is asked first.
+        let kind = fs::metadata(path)?.file_type();
+        if kind.is_dir() {
+            return Err(other("it is a folder, not a file"));
         }
-        let mut file = File::open(path)?;
+        if kind.is_char_device() || kind.is_block_device() {
+            return Err(other("it is a device, not a file"));
+        }
+        Input::of(File::open(path)?)
+    }
+
+    /// What an open file has from its place on.
+    fn of(mut file: File) -> io::Result<Input> {
         let about = file.metadata()?;
-        if !about.is_file() {
-            let mut bytes = Vec::new();
-            file.read_to_end(&mut bytes)?;
-            return Ok(Input::Read(bytes));
-        }
+        // Of a regular file that somebody has read from already only the rest counts.
+        let whole = about.is_file() && matches!(file.stream_position(), Ok(0));
         match usize::try_from(about.len()) {
+            _ if !whole => {
+                let mut bytes = Vec::new();
+                file.read_to_end(&mut bytes)?;
+                Ok(Input::Read(bytes))
+            }
             Ok(0) => Ok(Input::Read(Vec::new())),
             Ok(len) => Map::new(&file, len).map(Input::Mapped),
-            Err(_) => Err(io::Error::new(
-                io::ErrorKind::Other,
-                "it is longer than memory",
-            )),
+            Err(_) => Err(other("it is longer than memory")),
         }
     }
 
@@ -54,6 +57,10 @@ impl Input {
             Input::Read(bytes) => bytes,
         }
     }
+}
+
+fn other(words: &str) -> io::Error {
+    io::Error::new(io::ErrorKind::Other, words)
 }
 
 /// A file's name as it is shown.
@@ -76,7 +83,7 @@ pub(crate) fn words(error: &io::Error) -> String {
 /// Opens each file, checks it and shows it to `then`. What cannot be read or is refused is said, and the next file's turn
 /// comes; the worst status counts.
 pub(crate) fn each<'n>(
-    names: impl IntoIterator<Item = &'n std::ffi::OsString>,
+    names: impl IntoIterator<Item = &'n OsString>,
     out: &mut Output,
     mut then: impl FnMut(&str, &inscjarol::File<'_>, &mut Output) -> Result<Status, Failure>,
 ) -> Result<Status, Failure> {
