@@ -180,7 +180,7 @@ pub(crate) fn say_when_a_map_fails() {
 pub(crate) struct Unfinished;
 
 impl Unfinished {
-    /// Of this file; where its name holds a zero byte, which no name does, of none.
+    /// Of this file, which need not be there yet; where its name holds a zero byte, which no name does, of none.
     pub(crate) fn new(path: &Path) -> Unfinished {
         if let Ok(name) = CString::new(path.as_os_str().as_bytes()) {
             UNFINISHED.store(name.into_raw(), Ordering::SeqCst);

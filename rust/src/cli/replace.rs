@@ -34,10 +34,10 @@ impl Replacement {
             Err(error) if error.kind() == io::ErrorKind::NotFound => (target.to_path_buf(), 0o666),
             Err(error) => return Err(error),
         };
-        let (file, temporary) = create(&target, mode)?;
+        let (file, temporary, unfinished) = create(&target, mode)?;
         // From here on whatever fails removes the file again.
         let replacement = Replacement {
-            _unfinished: Unfinished::new(&temporary),
+            _unfinished: unfinished,
             file,
             temporary,
             target,
@@ -88,8 +88,10 @@ fn folder(path: &Path) -> &Path {
     }
 }
 
-/// A new file beside the target, with a name that nobody has, which nobody may read who may not read the target.
-fn create(target: &Path, mode: u32) -> io::Result<(File, PathBuf)> {
+/// A new file beside the target, with a name that nobody has, which nobody may read who may not read the target. A signal
+/// removes it from the moment that it is there: what is to be removed is said before. The name has this process in it, so
+/// that there is nobody else's file to be removed by it.
+fn create(target: &Path, mode: u32) -> io::Result<(File, PathBuf, Unfinished)> {
     let name = target.file_name().ok_or_else(|| other("it has no name"))?;
     for attempt in 0..TRIES {
         let mut temporary = OsString::from(".");
@@ -102,8 +104,9 @@ fn create(target: &Path, mode: u32) -> io::Result<(File, PathBuf)> {
             .write(true)
             .create_new(true)
             .mode(mode & 0o777);
+        let unfinished = Unfinished::new(&path);
         match options.open(&path) {
-            Ok(file) => return Ok((file, path)),
+            Ok(file) => return Ok((file, path, unfinished)),
             Err(error) if error.kind() == io::ErrorKind::AlreadyExists => continue,
             Err(error) => return Err(error),
         }
