@@ -1,7 +1,7 @@
-use Rattle.point_write.specs.Write.{waveformList}
+use Rattle.point_bytes.specs.Bytes.{waveformList}
 use borrow.Author.Needs.{needs}
-use Rattle.point_write.proofs.some_waveform_bytes.Statement.{statement}
-use Rattle.point_write.proofs.some_waveform_bytes.Tie as tie
+use Rattle.point_bytes.proofs.some_waveform_bytes.Statement.{statement}
+use Rattle.point_bytes.proofs.some_waveform_bytes.Tie as tie
 
 returns : tie.Need-returns
 returns c =

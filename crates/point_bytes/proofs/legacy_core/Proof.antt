@@ -3,10 +3,10 @@ use mathlib.Core.List.{[], _∷_}
 use mir.Syntax.{w8, w32}
 use mir.Val.{ofZ}
 use Rattle.le.proofs.Twos.{kept}
-use Rattle.point_write.specs.Write.{core, legacyCoreOf}
+use Rattle.point_bytes.specs.Bytes.{core, legacyCoreOf}
 use borrow.Author.Needs.{needs}
-use Rattle.point_write.proofs.legacy_core.Statement.{statement}
-use Rattle.point_write.proofs.legacy_core.Tie as tie
+use Rattle.point_bytes.proofs.legacy_core.Statement.{statement}
+use Rattle.point_bytes.proofs.legacy_core.Tie as tie
 
 returns : tie.Need-returns
 unfolding legacyCoreOf

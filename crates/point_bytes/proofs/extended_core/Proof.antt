@@ -1,15 +1,13 @@
-use Rattle.point_write.specs.Write.{core, threeList, coreOf}
-use mathlib.Core.List.{_∷_}
-use Rattle.le.specs.Le.{bytes}
-use Rattle.point_write.specs.Write.{core, threeList}
 use mathlib.Core.Path.{ap, _∙_}
+use mathlib.Core.List.{_∷_}
 use mir.Syntax.{w16, w32}
 use mir.Val.{ofZ}
+use Rattle.le.specs.Le.{bytes}
 use Rattle.le.proofs.Twos.{kept}
-use Rattle.point_write.specs.Write.{coreOf}
+use Rattle.point_bytes.specs.Bytes.{core, threeList, coreOf}
 use borrow.Author.Needs.{needs}
-use Rattle.point_write.proofs.extended_core.Statement.{statement}
-use Rattle.point_write.proofs.extended_core.Tie as tie
+use Rattle.point_bytes.proofs.extended_core.Statement.{statement}
+use Rattle.point_bytes.proofs.extended_core.Tie as tie
 
 returns : tie.Need-returns
 unfolding coreOf

@@ -1,7 +1,7 @@
 use Rattle.le.specs.Real.{f32BitsOf}
 use borrow.Author.Needs.{needs}
-use Rattle.point_write.proofs.float_bits.Statement.{statement}
-use Rattle.point_write.proofs.float_bits.Tie as tie
+use Rattle.point_bytes.proofs.float_bits.Statement.{statement}
+use Rattle.point_bytes.proofs.float_bits.Tie as tie
 
 returns : tie.Need-returns
 unfolding f32BitsOf

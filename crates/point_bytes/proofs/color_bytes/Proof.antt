@@ -1,8 +1,8 @@
 use mathlib.Core.Path.{sym, ap}
-use Rattle.point_write.specs.Write.{colorBytes}
+use Rattle.point_bytes.specs.Bytes.{colorBytes}
 use borrow.Author.Needs.{needs}
-use Rattle.point_write.proofs.color_bytes.Statement.{statement}
-use Rattle.point_write.proofs.color_bytes.Tie as tie
+use Rattle.point_bytes.proofs.color_bytes.Statement.{statement}
+use Rattle.point_bytes.proofs.color_bytes.Tie as tie
 
 returns : tie.Need-returns
 returns c = sym (ap colorBytes (c .before .before .before .before .before .before .before .color .given .1))
