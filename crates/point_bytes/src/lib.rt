@@ -1,8 +1,12 @@
 // The bytes of a point record's parts: those before the time, the time, the colour, the near infrared and the waveform.
 ghost use mathlib.Core.Path.{_≡_};
 ghost use lib.Ieee.{binary32};
+ghost use mir.Syntax.{w32};
+ghost use mir.Val.{ofZ};
+ghost use Rattle.le.specs.Le.{bytes};
 ghost use Rattle.le.specs.Real.{patternOf};
 ghost use Rattle.point_bytes.specs.Bytes.{timeBytes, colorBytes, nirBytes, waveformBytes, waveformOf, coreOf, legacyCoreOf};
+ghost use Rattle.point_bytes.specs.Split.{listOf2, listOf4, listOf8};
 use le::float;
 use le::signed;
 use point::MaybeColor;
@@ -16,36 +20,38 @@ use point::Waveform;
 pub fn extended_core(point: Point) -> [u8; 22]
     ensures { λ r. ⌜ r ≡ coreOf point ⌝ }
 {
-    let x = signed::bits32(point.x);
-    let y = signed::bits32(point.y);
-    let z = signed::bits32(point.z);
+    let x = four_of_signed(point.x);
+    let y = four_of_signed(point.y);
+    let z = four_of_signed(point.z);
+    let intensity = two_of(point.intensity);
     let of_flags = point.flags;
     let flags = of_flags.to_three_bytes();
     let scan_angle = point.scan_angle;
-    let angle = signed::bits16(scan_angle.to_scaled());
+    let angle = two_of(signed::bits16(scan_angle.to_scaled()));
+    let source = two_of(point.point_source_id);
     [
-        (x % 256) as u8,
-        (x / 256 % 256) as u8,
-        (x / 65536 % 256) as u8,
-        (x / 16777216 % 256) as u8,
-        (y % 256) as u8,
-        (y / 256 % 256) as u8,
-        (y / 65536 % 256) as u8,
-        (y / 16777216 % 256) as u8,
-        (z % 256) as u8,
-        (z / 256 % 256) as u8,
-        (z / 65536 % 256) as u8,
-        (z / 16777216 % 256) as u8,
-        (point.intensity % 256) as u8,
-        (point.intensity / 256 % 256) as u8,
+        x.a,
+        x.b,
+        x.c,
+        x.d,
+        y.a,
+        y.b,
+        y.c,
+        y.d,
+        z.a,
+        z.b,
+        z.c,
+        z.d,
+        intensity.a,
+        intensity.b,
         flags.a,
         flags.b,
         flags.c,
         point.user_data,
-        (angle % 256) as u8,
-        (angle / 256 % 256) as u8,
-        (point.point_source_id % 256) as u8,
-        (point.point_source_id / 256 % 256) as u8,
+        angle.a,
+        angle.b,
+        source.a,
+        source.b,
     ]
 }
 
@@ -53,31 +59,34 @@ pub fn extended_core(point: Point) -> [u8; 22]
 pub fn legacy_core(point: Point, a: u8, b: u8) -> [u8; 20]
     ensures { λ r. ⌜ r ≡ legacyCoreOf point a b ⌝ }
 {
-    let x = signed::bits32(point.x);
-    let y = signed::bits32(point.y);
-    let z = signed::bits32(point.z);
+    let x = four_of_signed(point.x);
+    let y = four_of_signed(point.y);
+    let z = four_of_signed(point.z);
+    let intensity = two_of(point.intensity);
     let scan_angle = point.scan_angle;
+    let angle = signed::bits8(scan_angle.to_rank());
+    let source = two_of(point.point_source_id);
     [
-        (x % 256) as u8,
-        (x / 256 % 256) as u8,
-        (x / 65536 % 256) as u8,
-        (x / 16777216 % 256) as u8,
-        (y % 256) as u8,
-        (y / 256 % 256) as u8,
-        (y / 65536 % 256) as u8,
-        (y / 16777216 % 256) as u8,
-        (z % 256) as u8,
-        (z / 256 % 256) as u8,
-        (z / 65536 % 256) as u8,
-        (z / 16777216 % 256) as u8,
-        (point.intensity % 256) as u8,
-        (point.intensity / 256 % 256) as u8,
+        x.a,
+        x.b,
+        x.c,
+        x.d,
+        y.a,
+        y.b,
+        y.c,
+        y.d,
+        z.a,
+        z.b,
+        z.c,
+        z.d,
+        intensity.a,
+        intensity.b,
         a,
         b,
-        signed::bits8(scan_angle.to_rank()),
+        angle,
         point.user_data,
-        (point.point_source_id % 256) as u8,
-        (point.point_source_id / 256 % 256) as u8,
+        source.a,
+        source.b,
     ]
 }
 
@@ -96,14 +105,12 @@ pub fn color_bytes(color: MaybeColor) -> [u8; 6]
     ensures { λ r. ⌜ r ≡ colorBytes color ⌝ }
 {
     match color {
-        MaybeColor::Some(c) => [
-            (c.red % 256) as u8,
-            (c.red / 256 % 256) as u8,
-            (c.green % 256) as u8,
-            (c.green / 256 % 256) as u8,
-            (c.blue % 256) as u8,
-            (c.blue / 256 % 256) as u8,
-        ],
+        MaybeColor::Some(c) => {
+            let red = two_of(c.red);
+            let green = two_of(c.green);
+            let blue = two_of(c.blue);
+            [red.a, red.b, green.a, green.b, blue.a, blue.b]
+        }
         MaybeColor::None => [0; 6],
     }
 }
@@ -129,52 +136,118 @@ pub fn waveform_bytes(waveform: MaybeWaveform) -> [u8; 29]
 fn some_waveform_bytes(w: Waveform) -> [u8; 29]
     ensures { λ r. ⌜ r ≡ waveformOf w ⌝ }
 {
-    let offset = w.byte_offset_to_waveform_data;
-    let size = w.waveform_packet_size_in_bytes;
+    let offset = eight_of(w.byte_offset_to_waveform_data);
+    let size = four_of(w.waveform_packet_size_in_bytes);
     let nans = w.nans;
-    let location = float_bits(
+    let location = four_of_float(
         w.return_point_waveform_location,
         nans.return_point_waveform_location,
     );
-    let x_t = float_bits(w.x_t, nans.x_t);
-    let y_t = float_bits(w.y_t, nans.y_t);
-    let z_t = float_bits(w.z_t, nans.z_t);
+    let x = four_of_float(w.x_t, nans.x_t);
+    let y = four_of_float(w.y_t, nans.y_t);
+    let z = four_of_float(w.z_t, nans.z_t);
     [
         w.wave_packet_descriptor_index,
-        (offset % 256) as u8,
-        (offset / 256 % 256) as u8,
-        (offset / 65536 % 256) as u8,
-        (offset / 16777216 % 256) as u8,
-        (offset / 4294967296 % 256) as u8,
-        (offset / 1099511627776 % 256) as u8,
-        (offset / 281474976710656 % 256) as u8,
-        (offset / 72057594037927936 % 256) as u8,
-        (size % 256) as u8,
-        (size / 256 % 256) as u8,
-        (size / 65536 % 256) as u8,
-        (size / 16777216 % 256) as u8,
-        (location % 256) as u8,
-        (location / 256 % 256) as u8,
-        (location / 65536 % 256) as u8,
-        (location / 16777216 % 256) as u8,
-        (x_t % 256) as u8,
-        (x_t / 256 % 256) as u8,
-        (x_t / 65536 % 256) as u8,
-        (x_t / 16777216 % 256) as u8,
-        (y_t % 256) as u8,
-        (y_t / 256 % 256) as u8,
-        (y_t / 65536 % 256) as u8,
-        (y_t / 16777216 % 256) as u8,
-        (z_t % 256) as u8,
-        (z_t / 256 % 256) as u8,
-        (z_t / 65536 % 256) as u8,
-        (z_t / 16777216 % 256) as u8,
+        offset.a,
+        offset.b,
+        offset.c,
+        offset.d,
+        offset.e,
+        offset.f,
+        offset.g,
+        offset.h,
+        size.a,
+        size.b,
+        size.c,
+        size.d,
+        location.a,
+        location.b,
+        location.c,
+        location.d,
+        x.a,
+        x.b,
+        x.c,
+        x.d,
+        y.a,
+        y.b,
+        y.c,
+        y.d,
+        z.a,
+        z.b,
+        z.c,
+        z.d,
     ]
 }
 
-// The bits of an f32 with its NaN's pattern beside it.
-fn float_bits(value: f32, nan: u32) -> u32
-    ensures { λ r. ⌜ r ≡ patternOf binary32 value nan ⌝ }
+// The bytes of a number, the lowest first: a struct and no array, since its fields are read without a place in memory.
+struct Two {
+    a: u8,
+    b: u8,
+}
+
+struct Four {
+    a: u8,
+    b: u8,
+    c: u8,
+    d: u8,
+}
+
+struct Eight {
+    a: u8,
+    b: u8,
+    c: u8,
+    d: u8,
+    e: u8,
+    f: u8,
+    g: u8,
+    h: u8,
+}
+
+fn two_of(x: u16) -> Two
+    ensures { λ r. ⌜ listOf2 r ≡ bytes 2 x ⌝ }
 {
-    float::f32_bits(float::F32 { value, nan })
+    Two {
+        a: (x % 256) as u8,
+        b: (x / 256 % 256) as u8,
+    }
+}
+
+fn four_of(x: u32) -> Four
+    ensures { λ r. ⌜ listOf4 r ≡ bytes 4 x ⌝ }
+{
+    Four {
+        a: (x % 256) as u8,
+        b: (x / 256 % 256) as u8,
+        c: (x / 65536 % 256) as u8,
+        d: (x / 16777216 % 256) as u8,
+    }
+}
+
+fn eight_of(x: u64) -> Eight
+    ensures { λ r. ⌜ listOf8 r ≡ bytes 8 x ⌝ }
+{
+    Eight {
+        a: (x % 256) as u8,
+        b: (x / 256 % 256) as u8,
+        c: (x / 65536 % 256) as u8,
+        d: (x / 16777216 % 256) as u8,
+        e: (x / 4294967296 % 256) as u8,
+        f: (x / 1099511627776 % 256) as u8,
+        g: (x / 281474976710656 % 256) as u8,
+        h: (x / 72057594037927936 % 256) as u8,
+    }
+}
+
+// The same of a signed number, and of an f32 with its NaN's pattern beside it.
+
+fn four_of_signed(x: i32) -> Four
+    ensures { λ r. ⌜ listOf4 r ≡ bytes 4 (ofZ w32 x) ⌝ }
+{
+    four_of(signed::bits32(x))
+}
+
+fn four_of_float(value: f32, nan: u32) -> Four
+    ensures { λ r. ⌜ listOf4 r ≡ bytes 4 (patternOf binary32 value nan) ⌝ }
+{
+    four_of(float::f32_bits(float::F32 { value, nan }))
 }
