@@ -23,7 +23,8 @@ use Rattle.format.specs.Laws.{record-sum, rest-sum, len-is}
 use Rattle.point.specs.declared.Point.{Point}
 use Rattle.point.specs.declared.PointRead.the-variants.{Is}
 use Rattle.point.specs.Read.{pointOf, fieldOf, sizedOf, readAfter, readOf, extraOf}
-use Rattle.point_write.specs.Write.{joined, coreOf, legacyCoreOf, recordOf, flaggedOf, writtenAfter, writtenOf}
+use Rattle.point_bytes.specs.Bytes.{coreOf, legacyCoreOf}
+use Rattle.point_write.specs.Write.{joined, recordOf, flaggedOf, writtenAfter, writtenOf}
 use Rattle.point_write.specs.Laws.{extended-is, legacy-is, rest-length, core-length, legacy-core-length, sized-extended, sized-legacy}
 use Rattle.point_write.specs.Answered.{answered, extra-length}
 use Rattle.strict.specs.declared.Fit.{Fit}

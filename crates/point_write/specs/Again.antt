@@ -35,7 +35,8 @@ use Rattle.point.specs.declared.MaybeNir.{MaybeNir}
 use Rattle.point.specs.declared.MaybeNir.the-variants as some-nir
 use Rattle.point.specs.declared.Point.{Point}
 use Rattle.point.specs.Read.{fieldOf, flagsAt, angleAt, timeAt, colorAt, nirOf, nirAt, waveformAt, maybeWaveformAt, pointOf}
-use Rattle.point_write.specs.Write.{timeBytes, colorBytes, nirBytes, waveformBytes, fieldBytes, recordOf, threeList, twoList}
+use Rattle.point_bytes.specs.Bytes.{timeBytes, colorBytes, nirBytes, waveformBytes, threeList}
+use Rattle.point_write.specs.Write.{fieldBytes, recordOf, twoList}
 use Rattle.point_write.specs.Held.{FlagsHeld, AngleHeld, TimeHeld, ColorHeld, NirHeld, WaveformHeld, F32Held, Held}
 use Rattle.point_write.specs.Places.{hasOf, written-at}
 

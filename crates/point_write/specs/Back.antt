@@ -23,7 +23,8 @@ use Rattle.format.specs.Laws.{fields-follow}
 use Rattle.flags.specs.Bytes.{twoBytesOf, threeBytesOf}
 use Rattle.angle.specs.Angle.{toRank, toScaled}
 use Rattle.point.specs.Read.{fieldOf, flagsAt, angleAt, timeAt, colorAt, nirOf, nirAt, waveformAt, maybeWaveformAt, pointOf}
-use Rattle.point_write.specs.Write.{timeBytes, colorBytes, nirBytes, waveformBytes, threeList, twoList, fieldBytes, joined, recordOf}
+use Rattle.point_bytes.specs.Bytes.{timeBytes, colorBytes, nirBytes, waveformBytes, threeList}
+use Rattle.point_write.specs.Write.{twoList, fieldBytes, joined, recordOf}
 
 -- NIR 0 reads as missing, and missing is written as 0
 nir-back : (n : ℕ) → nirBytes (nirOf n) ≡ bytes 2 n

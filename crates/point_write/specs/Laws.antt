@@ -23,7 +23,8 @@ use Rattle.point.specs.declared.MaybeWaveform.the-variants as some-waveform
 use Rattle.point.specs.declared.MaybeNir.{MaybeNir}
 use Rattle.point.specs.declared.MaybeNir.the-variants as some-nir
 use Rattle.point.specs.declared.Point.{Point}
-use Rattle.point_write.specs.Write.{fieldBytes, joined, recordOf, coreOf, legacyCoreOf, onlyBytes, timeBytes, colorBytes, nirBytes, waveformBytes, flaggedOf, sizedOf}
+use Rattle.point_bytes.specs.Bytes.{coreOf, legacyCoreOf, timeBytes, colorBytes, nirBytes, waveformBytes}
+use Rattle.point_write.specs.Write.{fieldBytes, joined, recordOf, onlyBytes, flaggedOf, sizedOf}
 
 module _ (f : Format) (p : Point) (e : List ℕ) where
   -- a field that may be missing

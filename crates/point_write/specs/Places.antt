@@ -17,7 +17,8 @@ use Rattle.flags.specs.declared.Flags.the-variants.{TwoByte, ThreeByte}
 use Rattle.flags.specs.Bytes.{twoBytesOf, threeBytesOf}
 use Rattle.point.specs.declared.Point.{Point}
 use Rattle.point.specs.Read.{fieldOf}
-use Rattle.point_write.specs.Write.{fieldBytes, joined, recordOf, threeList, twoList}
+use Rattle.point_bytes.specs.Bytes.{threeList}
+use Rattle.point_write.specs.Write.{fieldBytes, joined, recordOf, twoList}
 use Rattle.point_write.specs.Laws.{time-length, color-length, nir-length, waveform-length}
 use Rattle.point_write.specs.Held.{FlagsHeld, Held}
 

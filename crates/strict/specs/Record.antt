@@ -29,7 +29,8 @@ use Rattle.point.specs.declared.MaybeNir.{MaybeNir}
 use Rattle.point.specs.declared.MaybeNir.the-variants.{Some, None}
 use Rattle.point.specs.declared.Point.{Point}
 use Rattle.point.specs.Read.{fieldOf, pointOf}
-use Rattle.point_write.specs.Write.{timeBytes, colorBytes, legacyCoreOf, joined, onlyBytes, recordOf}
+use Rattle.point_bytes.specs.Bytes.{timeBytes, colorBytes, legacyCoreOf}
+use Rattle.point_write.specs.Write.{joined, onlyBytes, recordOf}
 use Rattle.point_write.specs.Laws.{fromNir, legacy-is, rest-is}
 use Rattle.point_write.specs.Held.{FlagsHeld, AngleHeld, TimeHeld, ColorHeld, NirHeld, WaveformHeld, Held}
 use Rattle.point_write.specs.Theorems.{read-then-written, read-is-held, written-then-read, extra-written-then-read}

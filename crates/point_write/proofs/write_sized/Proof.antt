@@ -12,7 +12,8 @@ use Rattle.lent.specs.declared.Wrote.the-variants.{Bytes}
 use Rattle.format.specs.declared.Field.the-variants.{GpsTime}
 use Rattle.format.specs.Fields.{restOf, placeOf}
 use Rattle.format.specs.Laws.{rest-sum}
-use Rattle.point_write.specs.Write.{joined, recordOf, coreOf, legacyCoreOf, flaggedOf, sizedOf}
+use Rattle.point_bytes.specs.Bytes.{coreOf, legacyCoreOf}
+use Rattle.point_write.specs.Write.{joined, recordOf, flaggedOf, sizedOf}
 use Rattle.point_write.specs.Laws.{rest-length, core-length, legacy-core-length, extended-is, legacy-is, sized-extended, sized-legacy}
 use Rattle.point_write.proofs.Whole.{rest-fits, made}
 use Rattle.point_write.proofs.write_sized.Statement.{statement}

@@ -1,8 +1,8 @@
 use mathlib.Core.Path.{sym, ap, _∙_}
-use Rattle.point_write.specs.Write.{waveformBytes}
+use Rattle.point_bytes.specs.Bytes.{waveformBytes}
 use borrow.Author.Needs.{needs}
-use Rattle.point_write.proofs.waveform_bytes.Statement.{statement}
-use Rattle.point_write.proofs.waveform_bytes.Tie as tie
+use Rattle.point_bytes.proofs.waveform_bytes.Statement.{statement}
+use Rattle.point_bytes.proofs.waveform_bytes.Tie as tie
 
 returns : tie.Need-returns
 returns c = c .some-waveform-bytes .ensures ∙ sym (ap waveformBytes (c .before .before .waveform .given .1))

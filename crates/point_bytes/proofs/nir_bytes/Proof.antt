@@ -1,8 +1,8 @@
 use mathlib.Core.Path.{sym, ap, _∙_}
-use Rattle.point_write.specs.Write.{nirBytes}
+use Rattle.point_bytes.specs.Bytes.{nirBytes}
 use borrow.Author.Needs.{needs}
-use Rattle.point_write.proofs.nir_bytes.Statement.{statement}
-use Rattle.point_write.proofs.nir_bytes.Tie as tie
+use Rattle.point_bytes.proofs.nir_bytes.Statement.{statement}
+use Rattle.point_bytes.proofs.nir_bytes.Tie as tie
 
 returns : tie.Need-returns
 returns c = c .u16-bytes .ensures ∙ sym (ap nirBytes (c .before .before .nir .given .1))

@@ -1,9 +1,9 @@
 use mathlib.Core.Path.{sym, ap, _∙_}
 use Rattle.le.specs.Le.{bytes}
-use Rattle.point_write.specs.Write.{timeBytes}
+use Rattle.point_bytes.specs.Bytes.{timeBytes}
 use borrow.Author.Needs.{needs}
-use Rattle.point_write.proofs.time_bytes.Statement.{statement}
-use Rattle.point_write.proofs.time_bytes.Tie as tie
+use Rattle.point_bytes.proofs.time_bytes.Statement.{statement}
+use Rattle.point_bytes.proofs.time_bytes.Tie as tie
 
 returns : tie.Need-returns
 returns c = c .u64-bytes .ensures ∙ ap (bytes 8) (c .before .f64-bits .ensures) ∙ sym (ap timeBytes (c .before .before .before .time .given .1))
