@@ -13,15 +13,15 @@ returns c =
     let time = color .before .before in
     let a = time .before .before .args in
     λ i.
-        record {
-          «has_gps_time» = time .contains .ensures i;
-          «has_color» = color .contains2 .ensures i;
-          «is_extended» = leb 6 (a .n);
-          «has_waveform» = waveform .contains3 .ensures i;
-          «has_nir» = c .contains4 .ensures i;
-          «extra_bytes» = 0;
-          «is_compressed» = a .is-compressed;
-        }
+    record {
+      «has_gps_time» = time .contains .ensures i;
+      «has_color» = color .contains2 .ensures i;
+      «is_extended» = leb 6 (a .n);
+      «has_waveform» = waveform .contains3 .ensures i;
+      «has_nir» = c .contains4 .ensures i;
+      «extra_bytes» = 0;
+      «is_compressed» = a .is-compressed;
+    }
 
 pub with-code-spec : {M : Type 1} → statement M
 with-code-spec =
