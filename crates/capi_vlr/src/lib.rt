@@ -63,7 +63,7 @@ pub extern "C" fn las_vlr_write(
     ensures { λ _. ⌜ (now (row .exit), now (dst .exit)) ≡ writtenRow (writtenOf (vlrFrom extended (now (numbers .entry)) (now («user_id» .entry)) (now (description .entry))) (now («data» .entry)) (now (dst .entry))) ⌝ }
 {
     let vlr = vlr_from(extended, numbers, user_id, description);
-    match vlr.write_to(data, dst) {
+    match vlr_write::write_to(vlr, data, dst) {
         Wrote::Bytes(n) => words::tell(row, 0, n as u64, 0),
         Wrote::Refused(refusal) => words::refuse(row, refusal, 0),
     }

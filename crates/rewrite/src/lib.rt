@@ -108,7 +108,7 @@ fn rewrite_vlr(src: &[u8], extended: bool, dst: &mut [u8])
     ensures { λ _. ⌜ now (dst .exit) ≡ vlrBack extended (now (src .entry)) ++ drop (length (now (src .entry))) (now (dst .entry)) ⌝ }
 {
     let vlr = Vlr::read_from(src, extended).vlr;
-    vlr.write_to(vlr::data(src, extended), dst);
+    vlr_write::write_to(vlr, vlr::data(src, extended), dst);
 }
 
 // One record after the other, each into the rest of the destination.

@@ -6,12 +6,9 @@ ghost use lib.ListN.{length};
 ghost use Rattle.refusal.specs.declared.Refusal.the-variants.{Short};
 ghost use Rattle.vlr.specs.declared.RecordLength.the-variants as kind;
 ghost use Rattle.vlr.specs.declared.Extent.the-variants as extent;
-ghost use Rattle.vlr.specs.Cut.{total};
-ghost use Rattle.vlr.specs.Layout.{Description, fields, place, headSize};
-ghost use Rattle.vlr.specs.Put.{Put};
+ghost use Rattle.vlr.specs.Layout.{Description, place, headSize};
 ghost use Rattle.refusal.specs.Table.{wantedOf};
-ghost use Rattle.vlr.specs.Vlr.{dataLength, isExtended, lengthOf, vlrOf, noVlr, extentOf, readOf, dataOf, lengthBytes, fieldBytes, headBytes, writtenOf};
-use lent::Wrote;
+ghost use Rattle.vlr.specs.Vlr.{dataLength, lengthOf, vlrOf, noVlr, extentOf, readOf, dataOf};
 use refusal::Refusal;
 
 // The length of the data: a u16 in a VLR, a u64 in an EVLR.
@@ -48,16 +45,6 @@ impl RecordLength {
         match self {
             RecordLength::Vlr(n) => n as u64,
             RecordLength::Evlr(n) => n,
-        }
-    }
-
-    // Whether it is the length of an EVLR.
-    fn is_extended(self) -> bool
-        ensures { λ r. ⌜ r ≡ isExtended self ⌝ }
-    {
-        match self {
-            RecordLength::Vlr(_) => false,
-            RecordLength::Evlr(_) => true,
         }
     }
 
@@ -98,38 +85,6 @@ impl Vlr {
                 vlr: Vlr::default(),
             },
         }
-    }
-
-    // Writes the head and then `data` to the front of `dst`, answers their bytes and leaves what lies past them. Refuses
-    // with 24 where `data` has not the stated length, then with 22; a refusal changes nothing.
-    pub fn write_to(self, data: &[u8], dst: &mut [u8]) -> Wrote
-        ensures { λ r. ⌜ (r, now (dst .exit)) ≡ writtenOf self (now («data» .entry)) (now (dst .entry)) ⌝ }
-    {
-        let stated = self.record_length_after_header;
-        let length = stated.to_u64();
-        if data.len() as u64 != length {
-            return Wrote::Refused(Refusal::VlrDataLength(length));
-        }
-        let size = head_size(stated.is_extended()) + data.len();
-        if dst.len() < size {
-            return Wrote::Refused(Refusal::NoRoom(size as u64));
-        }
-        let at = self.put_head(dst);
-        put_at(dst, at, data);
-        Wrote::Bytes(size)
-    }
-
-    // Writes the head to the front of `dst` and answers where it ends.
-    fn put_head(self, dst: &mut [u8]) -> usize
-        requires { ⌜ total (λ f. length (fieldBytes self f)) fields ≤ length (now dst) ⌝ }
-        ensures { λ r. ⌜ Put 0 (headBytes self) (now (dst .entry)) r (now (dst .exit)) ⌝ }
-    {
-        let at = put_at(dst, 0, &le::u16_bytes(self.reserved));
-        let at = put_at(dst, at, &self.user_id);
-        let at = put_at(dst, at, &le::u16_bytes(self.record_id));
-        let stated = self.record_length_after_header;
-        let at = put_length(dst, at, stated);
-        put_at(dst, at, &self.description)
     }
 }
 
@@ -216,24 +171,4 @@ fn head(s: &[u8], extended: bool) -> Vlr
         record_length_after_header,
         description: store::bytes32(s, at),
     }
-}
-
-// Writes a length's bytes into `dst` from `at` on, and answers where they end.
-fn put_length(dst: &mut [u8], at: usize, n: RecordLength) -> usize
-    requires { ⌜ at + length (lengthBytes n) ≤ length (now dst) ⌝ }
-    ensures { λ r. ⌜ Put at (lengthBytes n) (now (dst .entry)) r (now (dst .exit)) ⌝ }
-{
-    match n {
-        RecordLength::Vlr(n) => put_at(dst, at, &le::u16_bytes(n)),
-        RecordLength::Evlr(n) => put_at(dst, at, &le::u64_bytes(n)),
-    }
-}
-
-// Writes `src` into `dst` from `at` on, and answers where it ends.
-fn put_at(dst: &mut [u8], at: usize, src: &[u8]) -> usize
-    requires { ⌜ at + length (now src) ≤ length (now dst) ⌝ }
-    ensures { λ r. ⌜ Put at (now (src .entry)) (now (dst .entry)) r (now (dst .exit)) ⌝ }
-{
-    lent::put(&mut dst[at..], src);
-    at + src.len()
 }

@@ -1,10 +1,30 @@
-use mathlib.Core.Path.{sym, _∙_}
+use Prim.Native.Nat.{ℕ}
+use mathlib.Core.Path.{_≡_, ap, sym, _∙_}
+use mathlib.Core.Bool.{Bool}
+use mathlib.Core.List.{List}
 use borrow.Author.Needs.{needs}
 use native.Mathlib.Omega.{arith}
-use Rattle.vlr.specs.Vlr.{readOf}
+use Rattle.refusal.specs.declared.Refusal.{Refusal}
+use Rattle.vlr.specs.declared.Extent.{Extent}
+use Rattle.vlr.specs.declared.Extent.the-variants.{Bytes, Refused}
+use Rattle.vlr.specs.declared.Vlr.{Vlr}
+use Rattle.vlr.specs.Vlr.{vlrOf, noVlr, extentOf, whenWhole, readOf}
 use Rattle.vlr.specs.Laws.{accepted}
 use Rattle.vlr.proofs.Vlr.read_from.Statement.{statement}
 use Rattle.vlr.proofs.Vlr.read_from.Tie as tie
+
+-- the answer tells which record stands beside it
+read-whole : (extended : Bool) (s : List ℕ) {x : Extent} {n : ℕ} {v : Vlr} → x ≡ extentOf extended s → x ≡ Bytes n → v ≡ vlrOf extended s → record { answer = x; vlr = v } ≡ readOf extended s
+unfolding readOf
+read-whole extended s p q r =
+    let same = r ∙ ap (λ (y : Extent). whenWhole y (vlrOf extended s) noVlr) (sym q ∙ p) in
+    λ i. record { answer = p i; vlr = same i }
+
+read-refused : (extended : Bool) (s : List ℕ) {x : Extent} {n : Refusal} {v : Vlr} → x ≡ extentOf extended s → x ≡ Refused n → v ≡ noVlr → record { answer = x; vlr = v } ≡ readOf extended s
+unfolding readOf
+read-refused extended s p q r =
+    let same = r ∙ ap (λ (y : Extent). whenWhole y (vlrOf extended s) noVlr) (sym q ∙ p) in
+    λ i. record { answer = p i; vlr = same i }
 
 head-requires : tie.Need-head-requires
 head-requires c κs =
@@ -13,12 +33,14 @@ head-requires c κs =
     omega (arith, accepted (a .extended) (a .s .now) (sym (m .measure .ensures) ∙ c .enum-told .given .1))
 
 returns : tie.Need-returns
-unfolding readOf
-returns c = rw (← (c .before .before .before .measure .ensures), c .before .enum-told .given .1) (cc)
+returns c =
+    let m = c .before .before .before in
+    read-whole (m .before .before .args .extended) (m .before .before .args .s .now) (m .measure .ensures) (c .before .enum-told .given .1) (c .head .ensures)
 
 returns-2 : tie.Need-returns-2
-unfolding readOf
-returns-2 c = rw (← (c .before .before .before .measure .ensures), c .before .enum-told2 .given .1) (cc)
+returns-2 c =
+    let m = c .before .before .before in
+    read-refused (m .before .before .args .extended) (m .before .before .args .s .now) (m .measure .ensures) (c .before .enum-told2 .given .1) (c .default .ensures)
 
 pub read-from-spec : {M : Type 1} → statement M
 read-from-spec =

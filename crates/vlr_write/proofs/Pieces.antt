@@ -9,7 +9,7 @@ use Rattle.refusal.specs.declared.Refusal.the-variants.{NoRoom}
 use Rattle.lent.specs.declared.Wrote.the-variants.{Bytes, Refused}
 use Rattle.lent.specs.Front.{frontOf}
 use Rattle.lent.specs.Laws.{sets-append, front, no-front, whole}
-use Rattle.vlr.specs.Put.{Put}
+use Rattle.vlr_write.specs.Put.{Put}
 
 pub none : {r : ℕ} {d : List ℕ} → Put r [] d r d
 none {r} {d} = record { ends = sym (add-zero r); holds = refl }

@@ -1,8 +1,8 @@
 use mathlib.Core.Path.{refl}
 use borrow.Author.Needs.{needs}
 use Rattle.lent.specs.Laws.{tail}
-use Rattle.vlr.proofs.put_at.Statement.{statement}
-use Rattle.vlr.proofs.put_at.Tie as tie
+use Rattle.vlr_write.proofs.put_at.Statement.{statement}
+use Rattle.vlr_write.proofs.put_at.Tie as tie
 
 returns : tie.Need-returns
 returns c =

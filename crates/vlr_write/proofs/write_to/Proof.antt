@@ -6,18 +6,18 @@ use borrow.Author.Needs.{needs}
 use borrow.Author.Tests.{eq-eqb, ne-eqb}
 use native.Mathlib.Omega.{arith}
 use lib.ListN.{length, length-append}
 use Rattle.vlr.specs.Cut.{length-joined}
 use Rattle.vlr.specs.Layout.{fields, headSize}
 use Rattle.vlr.specs.Places.{head-at-most}
 use Rattle.vlr.specs.Vlr.{fieldBytes, headBytes, writtenOf}
 use Rattle.vlr.specs.Laws.{length-head}
-use Rattle.vlr.proofs.Pieces.{followed, in-front, no-room}
-use Rattle.vlr.proofs.Vlr.write_to.Statement.{statement}
-use Rattle.vlr.proofs.Vlr.write_to.Tie as tie
+use Rattle.vlr_write.proofs.Pieces.{followed, in-front, no-room}
+use Rattle.vlr_write.proofs.write_to.Statement.{statement}
+use Rattle.vlr_write.proofs.write_to.Tie as tie
 
-head : (c : tie.After-head-size) → c .head-size .result ≡ length (headBytes (c .before .before .before .before .before .before .args .self))
+head : (c : tie.After-head-size) → c .head-size .result ≡ length (headBytes (c .before .before .before .before .before .before .args .vlr))
 head c =
-    let v = c .before .before .before .before .before .before .args .self in
+    let v = c .before .before .before .before .before .before .args .vlr in
     let u : length (v .«user_id») ≡ 16 = search needs in
     let d : length (v .description) ≡ 32 = search needs in
     c .head-size .ensures ∙ ap headSize (c .before .is-extended .ensures) ∙ sym (length-head v u d)
@@ -28,7 +28,7 @@ returns c =
     let t = c .before in
     rw (← (t .to-u64 .ensures), ne-eqb (length (t .before .before .before .args .«data» .now)) (t .to-u64 .result) (λ e. omega arith))
 
-size : (c : tie.After-head-size) → c .head-size .result + length (c .before .before .before .before .before .before .args .«data» .now) ≡ length (headBytes (c .before .before .before .before .before .before .args .self) ++ c .before .before .before .before .before .before .args .«data» .now)
+size : (c : tie.After-head-size) → c .head-size .result + length (c .before .before .before .before .before .before .args .«data» .now) ≡ length (headBytes (c .before .before .before .before .before .before .args .vlr) ++ c .before .before .before .before .before .before .args .«data» .now)
 size c = rw (head c, length-append)
 
 returns-2 : tie.Need-returns-2
@@ -37,13 +37,13 @@ returns-2 c =
     let h = c .before in
     let t = h .before .before in
     let a = t .before .before .before .before .args in
-    rw (← (t .before .to-u64 .ensures), eq-eqb (length (a .«data» .now)) (t .before .to-u64 .result) (omega arith)) (no-room (headBytes (a .self) ++ a .«data» .now) (a .dst .now) (size h) (c .if2 .taken))
+    rw (← (t .before .to-u64 .ensures), eq-eqb (length (a .«data» .now)) (t .before .to-u64 .result) (omega arith)) (no-room (headBytes (a .vlr) ++ a .«data» .now) (a .dst .now) (size h) (c .if2 .taken))
 
 put-head-requires : tie.Need-put-head-requires
 unfolding headBytes
 put-head-requires c κs =
     let h = c .before .before in
-    let v = h .before .before .before .before .before .before .args .self in
+    let v = h .before .before .before .before .before .before .args .vlr in
     rw (← (length-joined (fieldBytes v) fields)) (omega (arith, head h))
 
 returns-3 : tie.Need-returns-3
@@ -55,7 +55,7 @@ returns-3 c =
     let t = h .before .before in
     let a = t .before .before .before .before .args in
     rw (← (t .before .to-u64 .ensures), eq-eqb (length (a .«data» .now)) (t .before .to-u64 .result) (omega arith))
-    (in-front (headBytes (a .self) ++ a .«data» .now) (a .dst .now) (size h) (p .before .before .if2 .left) (followed (p .put-head .ensures) (w .put-at .ensures)))
+    (in-front (headBytes (a .vlr) ++ a .«data» .now) (a .dst .now) (size h) (p .before .before .if2 .left) (followed (p .put-head .ensures) (w .put-at .ensures)))
 
 pub write-to-spec : {M : Type 1} → statement M
 write-to-spec =
