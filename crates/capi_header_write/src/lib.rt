@@ -2,6 +2,10 @@
 // that is missing is ignored; of a number wider than its field the low bits count. Apart from `capi_header` because together
 // they would be checked for a minute.
 ghost use mathlib.Core.Path.{_≡_};
+ghost use Prim.Native.Nat.{_%_, _<_};
+ghost use lib.ListN.{getD};
+ghost use Rattle.le.specs.Real.{f64Of};
+ghost use Rattle.le.specs.declared.float.F64.{F64};
 ghost use Rattle.header_write.specs.Wrote.{wroteOf};
 ghost use Rattle.words.specs.Rows.{writtenRow};
 ghost use Rattle.capi_header_write.specs.Numbers.{lowFrom, startFrom, evlrFrom, largeFrom, nansFrom, headerFrom};
@@ -41,40 +45,40 @@ fn header_from(n: &[u64; 51], guid: [u8; 16], system: [u8; 32], software: [u8; 3
     ensures { λ r. ⌜ r ≡ headerFrom (now (n .entry)) guid system software ⌝ }
 {
     Header {
-        file_source_id: (n[0] % 65536) as u16,
-        global_encoding: (n[1] % 65536) as u16,
+        file_source_id: low16(n, 0),
+        global_encoding: low16(n, 1),
         guid,
         version: Version {
-            major: (n[2] % 256) as u8,
-            minor: (n[3] % 256) as u8,
+            major: low8(n, 2),
+            minor: low8(n, 3),
         },
         system_identifier: system,
         generating_software: software,
-        file_creation_day_of_year: (n[4] % 65536) as u16,
-        file_creation_year: (n[5] % 65536) as u16,
-        header_size: (n[6] % 65536) as u16,
-        offset_to_point_data: (n[7] % 4294967296) as u32,
-        number_of_variable_length_records: (n[8] % 4294967296) as u32,
-        point_data_record_format: (n[9] % 256) as u8,
-        point_data_record_length: (n[10] % 65536) as u16,
-        number_of_point_records: (n[11] % 4294967296) as u32,
+        file_creation_day_of_year: low16(n, 4),
+        file_creation_year: low16(n, 5),
+        header_size: low16(n, 6),
+        offset_to_point_data: low32(n, 7),
+        number_of_variable_length_records: low32(n, 8),
+        point_data_record_format: low8(n, 9),
+        point_data_record_length: low16(n, 10),
+        number_of_point_records: low32(n, 11),
         number_of_points_by_return: by_return_from(n),
-        x_scale_factor: float::f64_of(n[17]).value,
-        y_scale_factor: float::f64_of(n[18]).value,
-        z_scale_factor: float::f64_of(n[19]).value,
-        x_offset: float::f64_of(n[20]).value,
-        y_offset: float::f64_of(n[21]).value,
-        z_offset: float::f64_of(n[22]).value,
-        max_x: float::f64_of(n[23]).value,
-        min_x: float::f64_of(n[24]).value,
-        max_y: float::f64_of(n[25]).value,
-        min_y: float::f64_of(n[26]).value,
-        max_z: float::f64_of(n[27]).value,
-        min_z: float::f64_of(n[28]).value,
+        x_scale_factor: value(n, 17),
+        y_scale_factor: value(n, 18),
+        z_scale_factor: value(n, 19),
+        x_offset: value(n, 20),
+        y_offset: value(n, 21),
+        z_offset: value(n, 22),
+        max_x: value(n, 23),
+        min_x: value(n, 24),
+        max_y: value(n, 25),
+        min_y: value(n, 26),
+        max_z: value(n, 27),
+        min_z: value(n, 28),
         nans: nans_from(n),
-        start_of_waveform_data_packet_record: start_from(n[29], n[30]),
-        evlr: evlr_from(n[31], n[32], n[33]),
-        has_large_file: n[34] != 0,
+        start_of_waveform_data_packet_record: start_from(n),
+        evlr: evlr_from(n),
+        has_large_file: nth(n, 34) != 0,
         large_file: large_from(n),
     }
 }
@@ -84,11 +88,11 @@ fn by_return_from(n: &[u64; 51]) -> [u32; 5]
     ensures { λ r. ⌜ r ≡ lowFrom (now (n .entry)) 12 5 ⌝ }
 {
     [
-        (n[12] % 4294967296) as u32,
-        (n[13] % 4294967296) as u32,
-        (n[14] % 4294967296) as u32,
-        (n[15] % 4294967296) as u32,
-        (n[16] % 4294967296) as u32,
+        low32(n, 12),
+        low32(n, 13),
+        low32(n, 14),
+        low32(n, 15),
+        low32(n, 16),
     ]
 }
 
@@ -97,41 +101,41 @@ fn nans_from(n: &[u64; 51]) -> Nans
     ensures { λ r. ⌜ r ≡ nansFrom (now (n .entry)) ⌝ }
 {
     Nans {
-        x_scale_factor: float::f64_of(n[17]).nan,
-        y_scale_factor: float::f64_of(n[18]).nan,
-        z_scale_factor: float::f64_of(n[19]).nan,
-        x_offset: float::f64_of(n[20]).nan,
-        y_offset: float::f64_of(n[21]).nan,
-        z_offset: float::f64_of(n[22]).nan,
-        max_x: float::f64_of(n[23]).nan,
-        min_x: float::f64_of(n[24]).nan,
-        max_y: float::f64_of(n[25]).nan,
-        min_y: float::f64_of(n[26]).nan,
-        max_z: float::f64_of(n[27]).nan,
-        min_z: float::f64_of(n[28]).nan,
+        x_scale_factor: nan(n, 17),
+        y_scale_factor: nan(n, 18),
+        z_scale_factor: nan(n, 19),
+        x_offset: nan(n, 20),
+        y_offset: nan(n, 21),
+        z_offset: nan(n, 22),
+        max_x: nan(n, 23),
+        min_x: nan(n, 24),
+        max_y: nan(n, 25),
+        min_y: nan(n, 26),
+        max_z: nan(n, 27),
+        min_z: nan(n, 28),
     }
 }
 
 // What may be missing: any number but 0 says that it is there.
 
-fn start_from(has: u64, n: u64) -> OptionU64
-    ensures { λ r. ⌜ r ≡ startFrom has n ⌝ }
+fn start_from(n: &[u64; 51]) -> OptionU64
+    ensures { λ r. ⌜ r ≡ startFrom (getD (now (n .entry)) 29 0) (getD (now (n .entry)) 30 0) ⌝ }
 {
-    if has == 0 {
+    if nth(n, 29) == 0 {
         return OptionU64::None;
     }
-    OptionU64::Some(n)
+    OptionU64::Some(nth(n, 30))
 }
 
-fn evlr_from(has: u64, first: u64, count: u64) -> OptionEvlr
-    ensures { λ r. ⌜ r ≡ evlrFrom has first count ⌝ }
+fn evlr_from(n: &[u64; 51]) -> OptionEvlr
+    ensures { λ r. ⌜ r ≡ evlrFrom (getD (now (n .entry)) 31 0) (getD (now (n .entry)) 32 0) (getD (now (n .entry)) 33 0) ⌝ }
 {
-    if has == 0 {
+    if nth(n, 31) == 0 {
         return OptionEvlr::None;
     }
     OptionEvlr::Some(Evlr {
-        start_of_first_evlr: first,
-        number_of_evlrs: (count % 4294967296) as u32,
+        start_of_first_evlr: nth(n, 32),
+        number_of_evlrs: low32(n, 33),
     })
 }
 
@@ -139,23 +143,67 @@ fn large_from(n: &[u64; 51]) -> LargeFile
     ensures { λ r. ⌜ r ≡ largeFrom (now (n .entry)) ⌝ }
 {
     LargeFile {
-        number_of_point_records: n[35],
+        number_of_point_records: nth(n, 35),
         number_of_points_by_return: [
-            n[36],
-            n[37],
-            n[38],
-            n[39],
-            n[40],
-            n[41],
-            n[42],
-            n[43],
-            n[44],
-            n[45],
-            n[46],
-            n[47],
-            n[48],
-            n[49],
-            n[50],
+            nth(n, 36),
+            nth(n, 37),
+            nth(n, 38),
+            nth(n, 39),
+            nth(n, 40),
+            nth(n, 41),
+            nth(n, 42),
+            nth(n, 43),
+            nth(n, 44),
+            nth(n, 45),
+            nth(n, 46),
+            nth(n, 47),
+            nth(n, 48),
+            nth(n, 49),
+            nth(n, 50),
         ],
     }
+}
+
+// The number at place k, its low bits, and the two halves of the float that it is the bits of.
+
+fn nth(n: &[u64; 51], k: usize) -> u64
+    requires { ⌜ k < 51 ⌝ }
+    ensures { λ r. ⌜ r ≡ getD (now (n .entry)) k 0 ⌝ }
+{
+    n[k]
+}
+
+fn low8(n: &[u64; 51], k: usize) -> u8
+    requires { ⌜ k < 51 ⌝ }
+    ensures { λ r. ⌜ r ≡ getD (now (n .entry)) k 0 % 256 ⌝ }
+{
+    (n[k] % 256) as u8
+}
+
+fn low16(n: &[u64; 51], k: usize) -> u16
+    requires { ⌜ k < 51 ⌝ }
+    ensures { λ r. ⌜ r ≡ getD (now (n .entry)) k 0 % 65536 ⌝ }
+{
+    (n[k] % 65536) as u16
+}
+
+fn low32(n: &[u64; 51], k: usize) -> u32
+    requires { ⌜ k < 51 ⌝ }
+    ensures { λ r. ⌜ r ≡ getD (now (n .entry)) k 0 % 4294967296 ⌝ }
+{
+    (n[k] % 4294967296) as u32
+}
+
+fn value(n: &[u64; 51], k: usize) -> f64
+    requires { ⌜ k < 51 ⌝ }
+    ensures { λ r. ⌜ r ≡ f64Of (getD (now (n .entry)) k 0) .value ⌝ }
+{
+    float::f64_of(n[k]).value
+}
+
+fn nan(n: &[u64; 51], k: usize) -> u64
+    requires { ⌜ k < 51 ⌝ }
+    ensures { λ r. ⌜ r ≡ f64Of (getD (now (n .entry)) k 0) .nan ⌝ }
+{
+    float::f64_of(n[k]).nan
 }

@@ -8,6 +8,8 @@
 // A number of a part that is missing is 0 going out and ignored coming in; of a number wider than its field the low bits
 // count. Words and rows are those of the crate words.
 ghost use mathlib.Core.Path.{_≡_};
+ghost use Prim.Native.Nat.{_%_, _<_};
+ghost use lib.ListN.{getD};
 ghost use Rattle.words.specs.Words.{formatOfWord};
 ghost use Rattle.point.specs.Read.{noPoint, readOf};
 ghost use Rattle.point_write.specs.Write.{writtenOf};
@@ -128,19 +130,49 @@ pub fn point_from(n: &[u64; 24]) -> Point
     ensures { λ r. ⌜ r ≡ pointFrom (now (n .entry)) ⌝ }
 {
     Point {
-        x: signed::signed32((n[0] % 4294967296) as u32),
-        y: signed::signed32((n[1] % 4294967296) as u32),
-        z: signed::signed32((n[2] % 4294967296) as u32),
-        intensity: (n[3] % 65536) as u16,
-        flags: words::flags_of((n[4] % 4294967296) as u32),
-        scan_angle: words::angle_of((n[5] % 4294967296) as u32),
-        user_data: (n[6] % 256) as u8,
-        point_source_id: (n[7] % 65536) as u16,
-        gps_time: time_from(n[8], n[9]),
-        color: color_from(n[10], n[11], n[12], n[13]),
+        x: signed::signed32(low32(n, 0)),
+        y: signed::signed32(low32(n, 1)),
+        z: signed::signed32(low32(n, 2)),
+        intensity: low16(n, 3),
+        flags: words::flags_of(low32(n, 4)),
+        scan_angle: words::angle_of(low32(n, 5)),
+        user_data: low8(n, 6),
+        point_source_id: low16(n, 7),
+        gps_time: time_from(n),
+        color: color_from(n),
         waveform: maybe_waveform_from(n),
-        nir: nir_from(n[14], n[15]),
+        nir: nir_from(n),
     }
+}
+
+// The number at place k, and its low bits.
+
+fn nth(n: &[u64; 24], k: usize) -> u64
+    requires { ⌜ k < 24 ⌝ }
+    ensures { λ r. ⌜ r ≡ getD (now (n .entry)) k 0 ⌝ }
+{
+    n[k]
+}
+
+fn low8(n: &[u64; 24], k: usize) -> u8
+    requires { ⌜ k < 24 ⌝ }
+    ensures { λ r. ⌜ r ≡ getD (now (n .entry)) k 0 % 256 ⌝ }
+{
+    (n[k] % 256) as u8
+}
+
+fn low16(n: &[u64; 24], k: usize) -> u16
+    requires { ⌜ k < 24 ⌝ }
+    ensures { λ r. ⌜ r ≡ getD (now (n .entry)) k 0 % 65536 ⌝ }
+{
+    (n[k] % 65536) as u16
+}
+
+fn low32(n: &[u64; 24], k: usize) -> u32
+    requires { ⌜ k < 24 ⌝ }
+    ensures { λ r. ⌜ r ≡ getD (now (n .entry)) k 0 % 4294967296 ⌝ }
+{
+    (n[k] % 4294967296) as u32
 }
 
 // What may be missing, going out: whether it is there, and what stands for it where it isn't, as the Rust's defaults.
@@ -240,35 +272,35 @@ fn float_bits(value: f32, nan: u32) -> u64
 
 // What may be missing, coming in: any number but 0 says that it is there.
 
-fn time_from(has: u64, bits: u64) -> MaybeTime
-    ensures { λ r. ⌜ r ≡ timeFrom has bits ⌝ }
+fn time_from(n: &[u64; 24]) -> MaybeTime
+    ensures { λ r. ⌜ r ≡ timeFrom (getD (now (n .entry)) 8 0) (getD (now (n .entry)) 9 0) ⌝ }
 {
-    if has == 0 {
+    if nth(n, 8) == 0 {
         return MaybeTime::None;
     }
-    MaybeTime::Some(float::f64_of(bits))
+    MaybeTime::Some(float::f64_of(nth(n, 9)))
 }
 
-fn color_from(has: u64, red: u64, green: u64, blue: u64) -> MaybeColor
-    ensures { λ r. ⌜ r ≡ colorFrom has red green blue ⌝ }
+fn color_from(n: &[u64; 24]) -> MaybeColor
+    ensures { λ r. ⌜ r ≡ colorFrom (getD (now (n .entry)) 10 0) (getD (now (n .entry)) 11 0) (getD (now (n .entry)) 12 0) (getD (now (n .entry)) 13 0) ⌝ }
 {
-    if has == 0 {
+    if nth(n, 10) == 0 {
         return MaybeColor::None;
     }
     MaybeColor::Some(Color {
-        red: (red % 65536) as u16,
-        green: (green % 65536) as u16,
-        blue: (blue % 65536) as u16,
+        red: low16(n, 11),
+        green: low16(n, 12),
+        blue: low16(n, 13),
     })
 }
 
-fn nir_from(has: u64, n: u64) -> MaybeNir
-    ensures { λ r. ⌜ r ≡ nirFrom has n ⌝ }
+fn nir_from(n: &[u64; 24]) -> MaybeNir
+    ensures { λ r. ⌜ r ≡ nirFrom (getD (now (n .entry)) 14 0) (getD (now (n .entry)) 15 0) ⌝ }
 {
-    if has == 0 {
+    if nth(n, 14) == 0 {
         return MaybeNir::None;
     }
-    MaybeNir::Some((n % 65536) as u16)
+    MaybeNir::Some(low16(n, 15))
 }
 
 // The bits of a waveform's four floats.
@@ -282,21 +314,16 @@ struct Bits {
 fn maybe_waveform_from(n: &[u64; 24]) -> MaybeWaveform
     ensures { λ r. ⌜ r ≡ maybeWaveformFrom (now (n .entry)) ⌝ }
 {
-    if n[16] == 0 {
+    if nth(n, 16) == 0 {
         return MaybeWaveform::None;
     }
     let bits = Bits {
-        location: (n[20] % 4294967296) as u32,
-        x_t: (n[21] % 4294967296) as u32,
-        y_t: (n[22] % 4294967296) as u32,
-        z_t: (n[23] % 4294967296) as u32,
+        location: low32(n, 20),
+        x_t: low32(n, 21),
+        y_t: low32(n, 22),
+        z_t: low32(n, 23),
     };
-    MaybeWaveform::Some(waveform_from(
-        (n[17] % 256) as u8,
-        n[18],
-        (n[19] % 4294967296) as u32,
-        bits,
-    ))
+    MaybeWaveform::Some(waveform_from(low8(n, 17), nth(n, 18), low32(n, 19), bits))
 }
 
 fn waveform_from(index: u8, offset: u64, size: u32, bits: Bits) -> Waveform

@@ -1,6 +1,6 @@
 -- Laws over the field table, each once for every field.
 use Prim.Native.Nat.{ℕ, _+_, _*_}
-use mathlib.Core.Path.{_≡_, refl, sym, _∙_}
+use mathlib.Core.Path.{_≡_, refl, sym, ap, _∙_}
 use mathlib.Core.Bool.{Bool, true, false, cond}
 use mathlib.Core.List.{List, [], _∷_, _++_, append-assoc, map}
 use native.Mathlib.Omega.{arith}
@@ -63,6 +63,15 @@ module _ (h : Header) where
   pub record Stored (d : List ℕ) (fs : List Field) (r : List ℕ) : Type 0 where
     pub bytes : r ≡ stored d fs
     pub wide : All (λ (f : Field). length (fieldBytes h f) ≡ width f) fs
+
+  -- no field, and a field and then others
+  pub nothing : (d : List ℕ) → d ≡ stored d []
+  unfolding stored
+  nothing d = refl
+
+  pub next : (d : List ℕ) (f : Field) {e g : List ℕ} (fs : List Field) → e ≡ sets d (place f) (fieldBytes h f) → g ≡ stored e fs → g ≡ stored d (f ∷ fs)
+  unfolding stored
+  next d f fs p q = q ∙ ap (λ (x : List ℕ). stored x fs) p
 
   -- some fields, and then others
   stored-then : (d : List ℕ) {e g : List ℕ} (xs ys : List Field) → e ≡ stored d xs → g ≡ stored e ys → g ≡ stored d (xs ++ ys)

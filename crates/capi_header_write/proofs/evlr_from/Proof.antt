@@ -6,14 +6,14 @@ use Rattle.capi_header_write.proofs.evlr_from.Tie as tie
 
 returns : tie.Need-returns
 unfolding evlrFrom
-returns c = search tests
+returns c = rw (← (c .before .nth .ensures)) (search tests)
 
 returns-2 : tie.Need-returns-2
 unfolding evlrFrom
-returns-2 c = search tests
+returns-2 c = rw (← (c .before .before .before .nth .ensures), ← (c .before .nth2 .ensures), ← (c .low32 .ensures)) (search tests)
 
 pub evlr-from-spec : {M : Type 1} → statement M
 evlr-from-spec =
     tie.close
     (tie.spec
-    returns (λ c. search needs) returns-2)
+    (λ c κs. search needs) returns (λ c κs. search needs) (λ c κs. search needs) returns-2)

@@ -17,38 +17,25 @@ returns c =
     let c9 = c8 .before in
     let c10 = c9 .before in
     let c11 = c10 .before in
-    let c12 = c11 .before in
-    let c13 = c12 .before in
-    let c14 = c13 .before in
-    let c15 = c14 .before in
-    let c16 = c15 .before in
-    let c17 = c16 .before in
-    let c18 = c17 .before in
-    let c19 = c18 .before in
-    let c20 = c19 .before in
-    let c21 = c20 .before in
-    let c22 = c21 .before in
     λ i. record {
-      «x_scale_factor» = c22 .f64-of .ensures i .nan;
-      «y_scale_factor» = c20 .f64-of2 .ensures i .nan;
-      «z_scale_factor» = c18 .f64-of3 .ensures i .nan;
-      «x_offset» = c16 .f64-of4 .ensures i .nan;
-      «y_offset» = c14 .f64-of5 .ensures i .nan;
-      «z_offset» = c12 .f64-of6 .ensures i .nan;
-      «max_x» = c10 .f64-of7 .ensures i .nan;
-      «min_x» = c8 .f64-of8 .ensures i .nan;
-      «max_y» = c6 .f64-of9 .ensures i .nan;
-      «min_y» = c4 .f64-of10 .ensures i .nan;
-      «max_z» = c2 .f64-of11 .ensures i .nan;
-      «min_z» = c .f64-of12 .ensures i .nan;
+      «x_scale_factor» = c11 .nan .ensures i;
+      «y_scale_factor» = c10 .nan2 .ensures i;
+      «z_scale_factor» = c9 .nan3 .ensures i;
+      «x_offset» = c8 .nan4 .ensures i;
+      «y_offset» = c7 .nan5 .ensures i;
+      «z_offset» = c6 .nan6 .ensures i;
+      «max_x» = c5 .nan7 .ensures i;
+      «min_x» = c4 .nan8 .ensures i;
+      «max_y» = c3 .nan9 .ensures i;
+      «min_y» = c2 .nan10 .ensures i;
+      «max_z» = c1 .nan11 .ensures i;
+      «min_z» = c .nan12 .ensures i;
     }
 
 pub nans-from-spec : {M : Type 1} → statement M
 nans-from-spec =
     tie.close
     (tie.spec
-    (λ c. search needs) (λ c κs. search needs) (λ c. search needs) (λ c κs. search needs) (λ c. search needs)
-    (λ c κs. search needs) (λ c. search needs) (λ c κs. search needs) (λ c. search needs) (λ c κs. search needs)
-    (λ c. search needs) (λ c κs. search needs) (λ c. search needs) (λ c κs. search needs) (λ c. search needs)
-    (λ c κs. search needs) (λ c. search needs) (λ c κs. search needs) (λ c. search needs) (λ c κs. search needs)
-    (λ c. search needs) (λ c κs. search needs) (λ c. search needs) (λ c κs. search needs) returns)
+    (λ c κs. search needs) (λ c κs. search needs) (λ c κs. search needs) (λ c κs. search needs) (λ c κs. search needs)
+    (λ c κs. search needs) (λ c κs. search needs) (λ c κs. search needs) (λ c κs. search needs) (λ c κs. search needs)
+    (λ c κs. search needs) (λ c κs. search needs) returns)

@@ -1,4 +1,4 @@
-use borrow.Author.Tests.{eq-eqb, ne-eqb}
+use Rattle.refusal.proofs.Tests.{tests}
 use Rattle.capi_point.specs.Numbers.{colorFrom}
 use borrow.Author.Needs.{needs}
 use Rattle.capi_point.proofs.color_from.Statement.{statement}
@@ -6,12 +6,15 @@ use Rattle.capi_point.proofs.color_from.Tie as tie
 
 returns : tie.Need-returns
 unfolding colorFrom
-returns c = rw (eq-eqb _ _ (c .if1 .taken))
+returns c = rw (← (c .before .nth .ensures)) (search tests)
 
 returns-2 : tie.Need-returns-2
 unfolding colorFrom
-returns-2 c = rw (ne-eqb _ _ (c .if1 .left))
+returns-2 c = rw (c .before .before .low16 .ensures, c .before .low162 .ensures, c .low163 .ensures, ← (c .before .before .before .before .nth .ensures)) (search tests)
 
 pub color-from-spec : {M : Type 1} → statement M
-color-from-spec = tie.close (tie.spec
-    returns (λ c. search needs) (λ c. search needs) (λ c. search needs) returns-2)
+color-from-spec =
+    tie.close
+    (tie.spec
+    (λ c κs. search needs) returns (λ c κs. search needs) (λ c κs. search needs) (λ c κs. search needs)
+    returns-2)

@@ -1,4 +1,4 @@
-use borrow.Author.Tests.{eq-eqb, ne-eqb}
+use Rattle.refusal.proofs.Tests.{tests}
 use Rattle.capi_point.specs.Numbers.{nirFrom}
 use borrow.Author.Needs.{needs}
 use Rattle.capi_point.proofs.nir_from.Statement.{statement}
@@ -6,12 +6,14 @@ use Rattle.capi_point.proofs.nir_from.Tie as tie
 
 returns : tie.Need-returns
 unfolding nirFrom
-returns c = rw (eq-eqb _ _ (c .if1 .taken))
+returns c = rw (← (c .before .nth .ensures)) (search tests)
 
 returns-2 : tie.Need-returns-2
 unfolding nirFrom
-returns-2 c = rw (ne-eqb _ _ (c .if1 .left))
+returns-2 c = rw (c .low16 .ensures, ← (c .before .before .nth .ensures)) (search tests)
 
 pub nir-from-spec : {M : Type 1} → statement M
-nir-from-spec = tie.close (tie.spec
-    returns (λ c. search needs) returns-2)
+nir-from-spec =
+    tie.close
+    (tie.spec
+    (λ c κs. search needs) returns (λ c κs. search needs) returns-2)

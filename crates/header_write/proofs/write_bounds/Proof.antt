@@ -1,19 +1,35 @@
 use mathlib.Core.Path.{refl}
+use mathlib.Core.List.{[], _∷_}
+use Rattle.header.specs.Layout.{MaxX, MinX, MaxY, MinY, MaxZ, MinZ}
 use borrow.Author.Needs.{needs}
-use Rattle.header_write.specs.Table.{stored, none, _&_}
+use Rattle.header_write.specs.Table.{nothing, next, none, _&_}
 use Rattle.header_write.proofs.write_bounds.Statement.{statement}
 use Rattle.header_write.proofs.write_bounds.Tie as tie
 
 returns : tie.Need-returns
-unfolding stored
 returns c =
-    let c6 = c .before .before .before .before .before .before in
-    let c10 = c6 .before .before .before .before in
-    let c14 = c10 .before .before .before .before in
-    let c18 = c14 .before .before .before .before in
-    let c22 = c18 .before .before .before .before in
+    let c6 = c .before .before in
+    let c5 = c6 .before .before .before .before in
+    let c4 = c5 .before .before .before .before in
+    let c3 = c4 .before .before .before .before in
+    let c2 = c3 .before .before .before .before in
+    let c1 = c2 .before .before .before .before in
+    let a = c1 .before .before .before .before .args in
+    let d1 = c1 .set-f64 .last .0 in
+    let d2 = c2 .set-f642 .last .0 in
+    let d3 = c3 .set-f643 .last .0 in
+    let d4 = c4 .set-f644 .last .0 in
+    let d5 = c5 .set-f645 .last .0 in
+    let d6 = c6 .set-f646 .last .0 in
     record {
-      bytes = rw (c .before .before .set-f646 .ensures, c6 .set-f645 .ensures, c10 .set-f644 .ensures, c14 .set-f643 .ensures, c18 .set-f642 .ensures, c22 .set-f64 .ensures);
+      bytes =
+          next (a .h) (a .dst .now) MaxX (MinX ∷ MaxY ∷ MinY ∷ MaxZ ∷ MinZ ∷ []) (c1 .set-f64 .ensures)
+          (next (a .h) d1 MinX (MaxY ∷ MinY ∷ MaxZ ∷ MinZ ∷ []) (c2 .set-f642 .ensures)
+          (next (a .h) d2 MaxY (MinY ∷ MaxZ ∷ MinZ ∷ []) (c3 .set-f643 .ensures)
+          (next (a .h) d3 MinY (MaxZ ∷ MinZ ∷ []) (c4 .set-f644 .ensures)
+          (next (a .h) d4 MaxZ (MinZ ∷ []) (c5 .set-f645 .ensures)
+          (next (a .h) d5 MinZ [] (c6 .set-f646 .ensures)
+          (nothing (a .h) d6))))));
       wide = refl & refl & refl & refl & refl & refl & none;
     }
 
