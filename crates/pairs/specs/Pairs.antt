@@ -9,10 +9,10 @@ use Rattle.format.specs.declared.FormatLen.the-variants as len
 use Rattle.format.specs.Format.{withExtra}
 use Rattle.format.specs.Codes.{coded}
 use Rattle.format.specs.Fields.{lenOf}
-use Rattle.convert.specs.declared.Pair.{Pair}
-use Rattle.convert.specs.declared.Pair.the-variants.{Formats, None}
-use Rattle.convert.specs.declared.Planned.{Planned}
-use Rattle.convert.specs.declared.Planned.the-variants.{Is, Refused}
+use Rattle.pairs.specs.declared.Pair.{Pair}
+use Rattle.pairs.specs.declared.Pair.the-variants.{Formats, None}
+use Rattle.pairs.specs.declared.Planned.{Planned}
+use Rattle.pairs.specs.declared.Planned.the-variants.{Is, Refused}
 
 -- the format of a code of the standard, with extra bytes
 unfoldable pub formatWith : ℕ → ℕ → Format

@@ -1,7 +1,7 @@
 use mathlib.Core.Path.{sym, _∙_}
 use borrow.Author.Needs.{needs}
-use Rattle.convert.proofs.lengths.Statement.{statement}
-use Rattle.convert.proofs.lengths.Tie as tie
+use Rattle.pairs.proofs.lengths.Statement.{statement}
+use Rattle.pairs.proofs.lengths.Tie as tie
 
 returns : tie.Need-returns
 returns c =

@@ -5,10 +5,10 @@ use native.Mathlib.Omega.{arith}
 use borrow.Author.Needs.{needs}
 use lib.ListN.{length, drop}
 use Rattle.lent.specs.Laws.{less-one}
-use Rattle.convert.specs.Run.{judgeRun}
-use Rattle.convert.proofs.Turn.{judge-turn, none-left, first-number}
-use Rattle.convert.proofs.judge_records.Statement.{statement}
-use Rattle.convert.proofs.judge_records.Tie as tie
+use Rattle.judge.specs.Judge.{judgeRun}
+use Rattle.judge.proofs.Turn.{judge-turn, none-left, first-number}
+use Rattle.judge.proofs.judge_records.Statement.{statement}
+use Rattle.judge.proofs.judge_records.Tie as tie
 
 abbrev Inv-loop : tie.InvT-loop
 Inv-loop src format m count at₀ left₀ at left =

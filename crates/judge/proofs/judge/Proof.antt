@@ -2,11 +2,11 @@
 use Prim.Native.Nat.{_*_, _≤_, _<_}
 use borrow.Author.Tests.{le-ltb, lt-ltb}
 use lib.ListN.{length}
-use Rattle.convert.specs.Run.{judgedOf}
-use Rattle.convert.specs.Laws.{some-bytes}
-use Rattle.convert.proofs.Turn.{div-le, div-lt}
-use Rattle.convert.proofs.judge.Statement.{statement}
-use Rattle.convert.proofs.judge.Tie as tie
+use Rattle.judge.specs.Judge.{judgedOf}
+use Rattle.pairs.specs.Sound.{some-bytes}
+use Rattle.judge.proofs.Turn.{div-le, div-lt}
+use Rattle.judge.proofs.judge.Statement.{statement}
+use Rattle.judge.proofs.judge.Tie as tie
 
 -- records have bytes
 source-bytes : (s : tie.Start) → 0 < s .args .plan .«source_length»

@@ -3,9 +3,9 @@ use native.Mathlib.Omega.{arith}
 use borrow.Author.Tests.{le-ltb, lt-ltb}
 use borrow.Author.Needs.{needs}
 use Rattle.refusal.specs.Table.{wantedOf}
-use Rattle.convert.proofs.Turn.{div-le, div-lt}
-use Rattle.convert.proofs.wanted.Statement.{statement}
-use Rattle.convert.proofs.wanted.Tie as tie
+use Rattle.judge.proofs.Turn.{div-le, div-lt}
+use Rattle.judge.proofs.wanted.Statement.{statement}
+use Rattle.judge.proofs.wanted.Tie as tie
 
 returns : tie.Need-returns
 unfolding wantedOf

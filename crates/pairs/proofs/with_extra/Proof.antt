@@ -6,9 +6,9 @@ use borrow.Author.Needs.{needs}
 use Rattle.format.specs.Format.{withExtra}
 use Rattle.format.specs.Codes.{coded}
 use Rattle.format.specs.Laws.{code-known}
-use Rattle.convert.specs.Pairs.{formatWith}
-use Rattle.convert.proofs.with_extra.Statement.{statement}
-use Rattle.convert.proofs.with_extra.Tie as tie
+use Rattle.pairs.specs.Pairs.{formatWith}
+use Rattle.pairs.proofs.with_extra.Statement.{statement}
+use Rattle.pairs.proofs.with_extra.Tie as tie
 
 -- a code of the standard is not refused
 returns : tie.Need-returns

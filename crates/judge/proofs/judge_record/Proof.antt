@@ -1,7 +1,7 @@
 use borrow.Author.Needs.{needs}
 use Rattle.strict.specs.Fit.{fieldsFit, fitOf}
-use Rattle.convert.proofs.judge_record.Statement.{statement}
-use Rattle.convert.proofs.judge_record.Tie as tie
+use Rattle.judge.proofs.judge_record.Statement.{statement}
+use Rattle.judge.proofs.judge_record.Tie as tie
 use mathlib.Core.Path.{_∙_}
 
 -- the three fields are those of the record's point

@@ -1,8 +1,8 @@
 use mathlib.Core.Path.{ap, sym, _∙_}
 use borrow.Author.Needs.{needs}
-use Rattle.convert.specs.Pairs.{plannedBy}
-use Rattle.convert.proofs.plan_for.Statement.{statement}
-use Rattle.convert.proofs.plan_for.Tie as tie
+use Rattle.pairs.specs.Pairs.{plannedBy}
+use Rattle.pairs.proofs.plan_for.Statement.{statement}
+use Rattle.pairs.proofs.plan_for.Tie as tie
 
 returns : tie.Need-returns
 returns c = c .lengths .ensures ∙ sym (ap (plannedBy (c .before .before .before .before .args .format)) (c .before .before .pair .given .1))
