@@ -15,12 +15,12 @@ use Rattle.vlr.specs.declared.RecordLength.{RecordLength}
 use Rattle.vlr.specs.declared.RecordLength.the-variants as kind
 use Rattle.vlr.specs.Layout.{headSize}
 use Rattle.vlr.specs.Vlr.{lengthOf, recordSize}
-use Rattle.file.specs.declared.Checked.{Checked}
-use Rattle.file.specs.declared.Checked.the-variants.{Accepted, Refused}
-use Rattle.file.specs.declared.Measured.{Measured}
-use Rattle.file.specs.declared.Measured.the-variants as measured
-use Rattle.file.specs.Rules.{recordNumber, first, tooFar, noLength, recordRules}
-use Rattle.file.specs.Steps.{measuredOf}
+use Rattle.rules.specs.declared.Checked.{Checked}
+use Rattle.rules.specs.declared.Checked.the-variants.{Accepted, Refused}
+use Rattle.rules.specs.declared.Measured.{Measured}
+use Rattle.rules.specs.declared.Measured.the-variants as measured
+use Rattle.rules.specs.Rules.{recordNumber, first, tooFar, noLength, recordRules}
+use Rattle.rules.specs.Steps.{measuredOf}
 
 -- 11 and 13 name the next record
 numbered : (r : RecordLength) (n : ℕ) → recordNumber (tooFar r) n ≡ n + 1

@@ -3,10 +3,10 @@ use mathlib.Core.Path.{_∙_}
 use borrow.Author.Needs.{needs}
 use borrow.Author.Tests.{le-ltb, lt-ltb, le-leb, lt-leb}
 use Rattle.refusal.proofs.Tests.{tests}
-use Rattle.file.specs.Rules.{first, recordNumber, headerRules}
-use Rattle.file.specs.Laws.{uncompressed}
-use Rattle.file.proofs.check_header.Statement.{statement}
-use Rattle.file.proofs.check_header.Tie as tie
+use Rattle.rules.specs.Rules.{first, recordNumber, headerRules}
+use Rattle.rules.specs.Laws.{uncompressed}
+use Rattle.rules.proofs.check_header.Statement.{statement}
+use Rattle.rules.proofs.check_header.Tie as tie
 
 ruleset header-tests = (le-ltb, lt-ltb, le-leb, lt-leb, uncompressed)
 

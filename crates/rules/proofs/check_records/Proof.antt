@@ -4,11 +4,11 @@ use mathlib.Core.Path.{_≡_, refl, sym, _∙_}
 use native.Mathlib.Omega.{arith}
 use borrow.Author.Needs.{needs}
 use lib.ListN.{length, drop}
-use Rattle.file.specs.declared.Checked.the-variants.{Accepted}
-use Rattle.file.specs.Rules.{first, recordRules}
-use Rattle.file.proofs.Walk.{none-left, refused-at, whole-at}
-use Rattle.file.proofs.check_records.Statement.{statement}
-use Rattle.file.proofs.check_records.Tie as tie
+use Rattle.rules.specs.declared.Checked.the-variants.{Accepted}
+use Rattle.rules.specs.Rules.{first, recordRules}
+use Rattle.rules.proofs.Walk.{none-left, refused-at, whole-at}
+use Rattle.rules.proofs.check_records.Statement.{statement}
+use Rattle.rules.proofs.check_records.Tie as tie
 
 abbrev Inv-loop : tie.InvT-loop
 Inv-loop rest extended allowance found count at₀ left₀ at left =

@@ -1,7 +1,7 @@
 use Rattle.refusal.proofs.Tests.{tests}
-use Rattle.file.specs.Rules.{highestFormat}
-use Rattle.file.proofs.highest_format.Statement.{statement}
-use Rattle.file.proofs.highest_format.Tie as tie
+use Rattle.rules.specs.Rules.{highestFormat}
+use Rattle.rules.proofs.highest_format.Statement.{statement}
+use Rattle.rules.proofs.highest_format.Tie as tie
 
 returns : tie.Need-returns
 unfolding highestFormat

@@ -6,11 +6,11 @@ use borrow.Author.Tests.{lt-leb, le-leb}
 use native.Mathlib.Omega.{arith}
 use lib.ListN.{length}
 use Rattle.vlr.specs.Vlr.{recordSize}
-use Rattle.file.specs.declared.Measured.the-variants.{Refused}
-use Rattle.file.specs.Rules.{tooFar}
-use Rattle.file.specs.Steps.{measuredOf}
-use Rattle.file.proofs.measure.Statement.{statement}
-use Rattle.file.proofs.measure.Tie as tie
+use Rattle.rules.specs.declared.Measured.the-variants.{Refused}
+use Rattle.rules.specs.Rules.{tooFar}
+use Rattle.rules.specs.Steps.{measuredOf}
+use Rattle.rules.proofs.measure.Statement.{statement}
+use Rattle.rules.proofs.measure.Tie as tie
 
 size : (c : tie.After-to-u64) → recordSize (c .before .before .before .before .before .args .extended) (c .before .before .before .before .before .args .rest .now) ≡ c .before .before .before .head-size .result + c .to-u64 .result
 unfolding recordSize

@@ -10,10 +10,10 @@ use Rattle.format.specs.declared.FormatLen.the-variants as len
 use Rattle.format.specs.Codes.{coded}
 use Rattle.format.specs.Fields.{lenOf}
 use Rattle.format.specs.Laws.{code-known}
-use Rattle.file.specs.Rules.{formatBytes}
-use Rattle.file.specs.Laws.{has-length}
-use Rattle.file.proofs.format_length.Statement.{statement}
-use Rattle.file.proofs.format_length.Tie as tie
+use Rattle.rules.specs.Rules.{formatBytes}
+use Rattle.rules.specs.Laws.{has-length}
+use Rattle.rules.proofs.format_length.Statement.{statement}
+use Rattle.rules.proofs.format_length.Tie as tie
 
 returns : tie.Need-returns
 returns c =
