@@ -3,8 +3,8 @@ use Prim.Native.Nat.{ℕ}
 use mathlib.Core.List.{List, [], _∷_}
 use Rattle.refusal.specs.Table.{numberOf, valueOf}
 use Rattle.words.specs.Rows.{refusedRow}
-use Rattle.file.specs.declared.Checked.{Checked}
-use Rattle.file.specs.declared.Checked.the-variants as checked
+use Rattle.rules.specs.declared.Checked.{Checked}
+use Rattle.rules.specs.declared.Checked.the-variants as checked
 use Rattle.rewrite.specs.declared.Rewrote.{Rewrote}
 use Rattle.rewrite.specs.declared.Rewrote.the-variants as rewrote
 

@@ -11,9 +11,9 @@ ghost use Rattle.capi_file.specs.Rows.{checkedRow, rewroteRow};
 ghost use Rattle.capi_file.specs.Parts.{numbersOf, partsRow};
 use cursor::Cursor;
 use cursor::Started;
-use file::Checked;
 use refusal::Refusal;
 use rewrite::Rewrote;
+use rules::Checked;
 
 // Whether the file is accepted; the row is number, value, record number and the records found whole.
 #[no_mangle]

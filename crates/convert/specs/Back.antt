@@ -17,13 +17,16 @@ use Rattle.strict.specs.declared.Fit.the-variants as fit
 use Rattle.strict.specs.Fit.{fitOf}
 use Rattle.strict.specs.Shown.{Paired}
 use Rattle.strict.specs.Theorems.{up-and-down}
-use Rattle.convert.specs.declared.Judged.the-variants as judged
+use Rattle.judge.specs.declared.Judged.the-variants as judged
 use Rattle.convert.specs.declared.Converted.the-variants as converted
-use Rattle.convert.specs.Pairs.{formatWith}
-use Rattle.convert.specs.Run.{imageOf, imagesOf, judgedBy, judgeRun, judgedOf, convertedOf, toOldOf, toNewOf}
-use Rattle.convert.specs.Asked.{Sound, TakesRun}
+use Rattle.pairs.specs.Pairs.{formatWith}
+use Rattle.judge.specs.Judge.{judgedBy, judgeRun, judgedOf}
+use Rattle.convert.specs.Run.{imageOf, imagesOf, convertedOf, toOldOf, toNewOf}
+use Rattle.pairs.specs.Sound.{Sound}
+use Rattle.convert.specs.Asked.{TakesRun}
 use Rattle.convert.specs.Demand.{Up, lengthOf, runLength, NotOverlong, Enough, No28, laid}
-use Rattle.convert.specs.Laws.{image-length, images-length, takes-new, goes}
+use Rattle.judge.specs.Laws.{goes}
+use Rattle.convert.specs.Laws.{image-length, images-length, takes-new}
 use Rattle.convert.specs.Told.{planOf, told-run, told-bytes, plan-of-sound, shorter, down-paired, down-told, up-told, way-back}
 use Rattle.convert.specs.Each.{at-zero, at-suc, written}
 

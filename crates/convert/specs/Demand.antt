@@ -14,7 +14,7 @@ use Rattle.point.specs.Read.{pointOf, fieldOf}
 use Rattle.strict.specs.declared.Fit.the-variants as fit
 use Rattle.strict.specs.Fit.{fitOf}
 use Rattle.strict.specs.Shown.{Same, Never, Unshown}
-use Rattle.convert.specs.Pairs.{formatWith}
+use Rattle.pairs.specs.Pairs.{formatWith}
 
 -- "Pairs down: 6 to 1, 7 to 3, 8 to 3, 9 to 4, 10 to 5"
 pub data Down : ℕ → ℕ → Type 0 where

@@ -20,15 +20,18 @@ use Rattle.strict.specs.Fit.{fitOf}
 use Rattle.strict.specs.Shown.{Same, Paired, downImage}
 use Rattle.strict.specs.Whole.{fits-two}
 use Rattle.strict.specs.Theorems.{shown-the-same}
-use Rattle.convert.specs.declared.Plan.{Plan}
-use Rattle.convert.specs.declared.Judged.{Judged}
-use Rattle.convert.specs.declared.Judged.the-variants as judged
+use Rattle.pairs.specs.declared.Plan.{Plan}
+use Rattle.judge.specs.declared.Judged.{Judged}
+use Rattle.judge.specs.declared.Judged.the-variants as judged
 use Rattle.convert.specs.declared.Converted.{Converted}
 use Rattle.convert.specs.declared.Converted.the-variants as converted
-use Rattle.convert.specs.Run.{imageOf, imagesOf, judgedBy, judgeRun, judgedOf, ran, convertedOf}
-use Rattle.convert.specs.Asked.{Sound, TakesRun}
+use Rattle.judge.specs.Judge.{judgedBy, judgeRun, judgedOf}
+use Rattle.convert.specs.Run.{imageOf, imagesOf, ran, convertedOf}
+use Rattle.pairs.specs.Sound.{Sound}
+use Rattle.convert.specs.Asked.{TakesRun}
 use Rattle.convert.specs.Demand.{nth}
-use Rattle.convert.specs.Laws.{image-length, goes, takes-all}
+use Rattle.judge.specs.Laws.{goes}
+use Rattle.convert.specs.Laws.{image-length, takes-all}
 
 pub at-zero : (m : ℕ) (s : List ℕ) → drop (zero * m) s ≡ s
 at-zero m s = ap (λ (j : ℕ). drop j s) (zero-mul m)

@@ -11,14 +11,15 @@ use lib.ListN.{length, drop}
 use Rattle.refusal.specs.declared.Refusal.{Refusal}
 use Rattle.refusal.specs.declared.Refusal.the-variants.{RecordLength, Short, NoRoom}
 use Rattle.refusal.specs.Table.{wantedOf}
-use Rattle.convert.specs.declared.Judged.{Judged}
-use Rattle.convert.specs.declared.Judged.the-variants as judged
+use Rattle.judge.specs.declared.Judged.{Judged}
+use Rattle.judge.specs.declared.Judged.the-variants as judged
 use Rattle.convert.specs.declared.Converted.{Converted}
 use Rattle.convert.specs.declared.Converted.the-variants as converted
-use Rattle.convert.specs.Pairs.{formatWith}
-use Rattle.convert.specs.Run.{imagesOf, judgeRun, judgedOf, ran, convertedOf, toOldOf}
+use Rattle.pairs.specs.Pairs.{formatWith}
+use Rattle.judge.specs.Judge.{judgeRun, judgedOf}
+use Rattle.convert.specs.Run.{imagesOf, ran, convertedOf, toOldOf}
 use Rattle.convert.specs.Demand.{Down, lengthOf, runLength, NotOverlong, Convertible, RefusedFor, no-pair, source-overlong, target-overlong, source-short, no-room, of-record}
-use Rattle.convert.specs.Laws.{goes}
+use Rattle.judge.specs.Laws.{goes}
 use Rattle.convert.specs.Told.{planOf, told, told-run, told-bytes, not-bytes, down-told, pair-or-none, none-told}
 use Rattle.convert.specs.Each.{fits-each, all-fit, first-refused, refused-at, written}
 

@@ -9,11 +9,12 @@ use Rattle.refusal.specs.declared.Refusal.{Refusal}
 use Rattle.le.specs.Le as le
 use Rattle.strict.specs.Theorems.{refused-only-then, no-old-record-shows-it}
 use Rattle.convert.specs.declared.Converted.the-variants as converted
-use Rattle.convert.specs.Pairs.{formatWith}
+use Rattle.pairs.specs.Pairs.{formatWith}
 use Rattle.convert.specs.Run.{imagesOf, toOldOf}
-use Rattle.convert.specs.Asked.{Sound}
+use Rattle.pairs.specs.Sound.{Sound, not-up}
 use Rattle.convert.specs.Demand.{Down, runLength, SameValues, FirstUnfit, RefusedFor, of-record}
-use Rattle.convert.specs.Laws.{not-up, goes, takes-all, images-length}
+use Rattle.judge.specs.Laws.{goes}
+use Rattle.convert.specs.Laws.{takes-all, images-length}
 use Rattle.convert.specs.Told.{planOf, told-bytes, plan-of-sound, down-paired, down-told}
 use Rattle.convert.specs.Each.{Written, written, each-shown}
 

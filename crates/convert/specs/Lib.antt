@@ -1,4 +1,3 @@
-pub mod Pairs
 pub mod Run
 pub mod Demand
 pub mod Theorems

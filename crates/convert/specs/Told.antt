@@ -15,13 +15,13 @@ use Rattle.format.specs.Codes.{isIn, coded}
 use Rattle.format.specs.Fields.{recordBytes, lenOf}
 use Rattle.format.specs.Laws.{record-sum}
 use Rattle.strict.specs.Shown.{Paired}
-use Rattle.convert.specs.declared.Pair.the-variants.{Formats}
-use Rattle.convert.specs.declared.Plan.{Plan}
+use Rattle.pairs.specs.declared.Pair.the-variants.{Formats}
+use Rattle.pairs.specs.declared.Plan.{Plan}
 use Rattle.convert.specs.declared.Converted.{Converted}
 use Rattle.convert.specs.declared.Converted.the-variants as converted
-use Rattle.convert.specs.Pairs.{formatWith, oldPair, newPair, lengthsOf, plannedBy}
+use Rattle.pairs.specs.Pairs.{formatWith, oldPair, newPair, lengthsOf, plannedBy}
 use Rattle.convert.specs.Run.{convertedOf, convertedBy, toOldOf, toNewOf}
-use Rattle.convert.specs.Asked.{Sound}
+use Rattle.pairs.specs.Sound.{Sound}
 use Rattle.convert.specs.Demand.{Down, from-6, from-7, from-8, from-9, from-10, Up, from-1, from-3, from-4, from-5}
 
 -- the plan of two formats

@@ -11,8 +11,9 @@ use lib.Seq.{take-all}
 use Rattle.refusal.specs.declared.Refusal.the-variants.{EvlrStart}
 use Rattle.header.specs.Judged.{judged, readOf}
 use Rattle.outline.specs.declared.Outline.{Outline}
-use Rattle.file.specs.declared.Checked.the-variants as checked
-use Rattle.file.specs.Rules.{Rule, rule, readable, standardSize, headerRules, recordRules, pointsEnd, vlrBytes, vlrRules, pointRule, evlrRules, partRules, outlineRules, rulesOf, checkedOf}
+use Rattle.rules.specs.declared.Checked.the-variants as checked
+use Rattle.rules.specs.Rules.{Rule, rule, headerRules, recordRules}
+use Rattle.file.specs.Rules.{readable, standardSize, pointsEnd, vlrBytes, vlrRules, pointRule, evlrRules, partRules, outlineRules, rulesOf, checkedOf}
 use Rattle.file.specs.Laws.{All, accepted-all}
 use Rattle.file.specs.Holds.{Run, all-split}
 use Rattle.cursor.specs.Parts.{between, outlineIn, evlrsStart, Laid}

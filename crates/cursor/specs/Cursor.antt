@@ -8,8 +8,8 @@ use Rattle.vlr.specs.declared.Extent.{Extent}
 use Rattle.vlr.specs.declared.Extent.the-variants as extent
 use Rattle.vlr.specs.Vlr.{extentOf}
 use Rattle.outline.specs.declared.Outline.{Outline}
-use Rattle.file.specs.declared.Checked.{Checked}
-use Rattle.file.specs.declared.Checked.the-variants as checked
+use Rattle.rules.specs.declared.Checked.{Checked}
+use Rattle.rules.specs.declared.Checked.the-variants as checked
 use Rattle.file.specs.Rules.{pointsEnd, checkedOf}
 use Rattle.cursor.specs.declared.Kind.{Kind}
 use Rattle.cursor.specs.declared.Kind.the-variants as kind

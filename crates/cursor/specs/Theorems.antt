@@ -7,7 +7,7 @@ use native.Mathlib.Nat.{sub-zero}
 use lib.ListN.{length, take}
 use lib.Seq.{take-length}
 use Rattle.vlr.specs.Vlr.{recordSize}
-use Rattle.file.specs.declared.Checked.the-variants as checked
+use Rattle.rules.specs.declared.Checked.the-variants as checked
 use Rattle.file.specs.Rules.{pointsEnd, checkedOf}
 use Rattle.cursor.specs.declared.Kind.the-variants.{Header, Vlr, Gap, Points}
 use Rattle.cursor.specs.declared.Part.{Part}

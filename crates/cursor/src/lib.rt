@@ -5,10 +5,10 @@ ghost use Prim.Native.Nat.{_<_, _-_};
 ghost use Rattle.file.specs.Rules.{pointsEnd};
 ghost use Rattle.cursor.specs.Parts.{between, evlrsStart};
 ghost use Rattle.cursor.specs.Cursor.{planOf, firstOf, startedOf, told, ended, recordStep, headerStep, pointsStep, vlrsStep, evlrsStep, betweenStep, stepOf};
-use file::Checked;
 use header::Header;
 use outline::Outline;
 use refusal::Refusal;
+use rules::Checked;
 use vlr::Extent;
 
 pub enum Kind {

@@ -8,11 +8,12 @@ use borrow.Author.Tests.{leb-true}
 use lib.ListN.{length}
 use Rattle.refusal.specs.declared.Refusal.{Refusal}
 use Rattle.outline.specs.declared.Outline.{Outline}
-use Rattle.file.specs.declared.Checked.{Checked}
-use Rattle.file.specs.declared.Checked.the-variants.{Accepted, Refused}
-use Rattle.file.specs.Rules.{Rule, first, formatBytes, headerRules}
+use Rattle.rules.specs.declared.Checked.{Checked}
+use Rattle.rules.specs.declared.Checked.the-variants.{Accepted, Refused}
+use Rattle.rules.specs.Rules.{Rule, first, formatBytes, headerRules}
 use Rattle.file.specs.Steps.{Bounded}
-use Rattle.file.specs.Laws.{All, first-append, all-hold, accepted-all, refused-first, format-bytes}
+use Rattle.rules.specs.Laws.{format-bytes}
+use Rattle.file.specs.Laws.{All, first-append, all-hold, accepted-all, refused-first}
 
 module _ (xs ys : List Rule) (done : Checked) (n : ℕ) {x : Checked} (e : x ≡ first xs (Accepted n)) where
   -- a refusal of the first list is the answer of both

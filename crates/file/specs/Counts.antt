@@ -15,9 +15,10 @@ use Rattle.header.specs.declared.HeaderAnswer.the-variants as answer
 use Rattle.header.specs.Judged.{judged, readOf}
 use Rattle.outline.specs.declared.Outline.{Outline}
 use Rattle.outline.specs.Outline.{outlineOf}
-use Rattle.file.specs.declared.Checked.{Checked}
-use Rattle.file.specs.declared.Checked.the-variants.{Accepted, Refused}
-use Rattle.file.specs.Rules.{Rule, refusedBy, first, readable, standardSize, headerRules, recordRules, pointsEnd, vlrBytes, vlrRules, pointRule, evlrRules, partRules, outlineRules, recordsOf, rulesOf, checkedOf}
+use Rattle.rules.specs.declared.Checked.{Checked}
+use Rattle.rules.specs.declared.Checked.the-variants.{Accepted, Refused}
+use Rattle.rules.specs.Rules.{Rule, refusedBy, first, headerRules, recordRules}
+use Rattle.file.specs.Rules.{readable, standardSize, pointsEnd, vlrBytes, vlrRules, pointRule, evlrRules, partRules, outlineRules, recordsOf, rulesOf, checkedOf}
 use Rattle.file.specs.Laws.{All}
 use Rattle.file.specs.Holds.{Run, PartsHold, some, records-hold, rules-hold}
 

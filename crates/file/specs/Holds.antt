@@ -15,7 +15,8 @@ use Rattle.header.specs.declared.HeaderAnswer.the-variants as answer
 use Rattle.header.specs.Judged.{judged, readOf}
 use Rattle.outline.specs.declared.Outline.{Outline}
 use Rattle.outline.specs.Outline.{outlineOf}
-use Rattle.file.specs.Rules.{Rule, rule, highestFormat, formatBytes, headerRules, recordRules, pointsEnd, vlrBytes, vlrRules, pointRule, evlrRules, partRules, outlineRules, readable, standardSize, rulesOf}
+use Rattle.rules.specs.Rules.{Rule, rule, highestFormat, formatBytes, headerRules, recordRules}
+use Rattle.file.specs.Rules.{pointsEnd, vlrBytes, vlrRules, pointRule, evlrRules, partRules, outlineRules, readable, standardSize, rulesOf}
 use Rattle.file.specs.Laws.{All}
 
 -- k records one after the other at the start of `rest`, each ending in it

@@ -1,28 +1,26 @@
 -- Laws of the rules.
-use Prim.Native.Nat.{ℕ, _≤_, _<_}
+use Prim.Native.Nat.{ℕ, _<_}
 use mathlib.Core.Path.{_≡_, refl, sym, ap, subst}
 use mathlib.Core.Bool.{Bool, true, false, cond, _&&_}
 use mathlib.Core.List.{List, [], _∷_, _++_}
 use native.Mathlib.Omega.{arith}
-use borrow.Author.Tests.{lt-ltb, le-ltb, ltb-true}
+use borrow.Author.Tests.{ltb-true}
 use lib.Dec.{eqb, ltb}
 use lib.ListN.{length}
 use Rattle.refusal.specs.declared.Refusal.{Refusal}
 use Rattle.refusal.specs.declared.Refusal.the-variants.{Version as VersionRefusal, RecordLength}
 use Rattle.format.specs.declared.Format.{Format}
 use Rattle.format.specs.declared.FormatLen.the-variants as len
-use Rattle.format.specs.Codes.{coded}
 use Rattle.format.specs.Fields.{recordBytes, lenOf}
-use Rattle.format.specs.Laws.{record-sum, when-le}
 use Rattle.header.specs.declared.HeaderAnswer.{HeaderAnswer}
 use Rattle.header.specs.declared.HeaderAnswer.the-variants as answer
 use Rattle.header.specs.declared.StandardSize.the-variants as standard
 use Rattle.header.specs.Layout.{FileSignature, HeaderSize}
 use Rattle.header.specs.Header.{part, number, lasf}
 use Rattle.header.specs.Judged.{eqList, standardOf, versionOf, sized, versioned, judged, readBy, readOf}
-use Rattle.file.specs.declared.Checked.{Checked}
-use Rattle.file.specs.declared.Checked.the-variants.{Accepted, Refused}
-use Rattle.file.specs.Rules.{Rule, recordNumber, refusedBy, first, formatBytes}
+use Rattle.rules.specs.declared.Checked.{Checked}
+use Rattle.rules.specs.declared.Checked.the-variants.{Accepted, Refused}
+use Rattle.rules.specs.Rules.{Rule, recordNumber, refusedBy, first}
 
 -- all rules of a list hold
 abbrev pub All : List Rule → Type 0
@@ -113,22 +111,6 @@ unnumbered s =
 pub header-number : (s : List ℕ) {r : Refusal} → judged s ≡ answer.Refused r → recordNumber r 0 ≡ 0
 header-number s p = subst Unnumbered p (unnumbered s)
 
--- the bytes of a code's record
-pub format-bytes : (f : ℕ) → (20 ≤ formatBytes f) × (formatBytes f ≤ 67)
-unfolding formatBytes coded
-format-bytes f =
-    let g = coded f false in
-    let e = when-le (g .«is_extended») 2 in
-    let t = when-le (g .«has_gps_time») 8 in
-    let c = when-le (g .«has_color») 6 in
-    let i = when-le (g .«has_nir») 2 in
-    let w = when-le (g .«has_waveform») 29 in
-    (omega (arith, record-sum g), omega (arith, record-sum g, e, t, c, i, w))
-
-pub has-length : (f : ℕ) → lenOf (coded f false) ≡ len.Is (formatBytes f)
-unfolding formatBytes lenOf
-has-length f = rw (le-ltb 65535 (recordBytes (coded f false)) (omega (arith, format-bytes f .1)))
-
 -- a length is refused only of an overlong format
 pub len-over : (f : Format) {r : Refusal} → lenOf f ≡ len.Refused r → 65535 < recordBytes f
 unfolding lenOf
@@ -137,6 +119,3 @@ len-over f {r} = go (ltb 65535 (recordBytes f)) refl
     go : (b : Bool) → ltb 65535 (recordBytes f) ≡ b → cond b (len.Refused (RecordLength (recordBytes f))) (len.Is (recordBytes f)) ≡ len.Refused r → 65535 < recordBytes f
     go true over e = ltb-true 65535 (recordBytes f) over
     go false over e = let z : _≡_ {A = ℕ} 0 1 = cc in absurd (omega arith)
-
-pub uncompressed : (f : ℕ) → f ≤ 10 → ltb f 128 ≡ true
-uncompressed f h = lt-ltb f 128 (omega arith)

@@ -23,7 +23,7 @@ use Rattle.header.specs.Layout.{PointDataRecordLength, place}
 use Rattle.header.specs.Judged.{judged, readBy, readOf}
 use Rattle.outline.specs.declared.Outline.{Outline}
 use Rattle.outline.specs.Outline.{outlineOf}
-use Rattle.file.specs.Rules.{formatBytes}
+use Rattle.rules.specs.Rules.{formatBytes}
 use Rattle.file.specs.Holds.{Holds}
 
 -- "Record length below the format's: 8. The rest is extra bytes." Where the code is refused, the format with no attribute.

@@ -6,7 +6,7 @@ use lib.ListN.{length}
 use Rattle.refusal.specs.declared.Refusal.{Refusal}
 use Rattle.header.specs.Judged.{readOf}
 use Rattle.outline.specs.Outline.{outlineOf}
-use Rattle.file.specs.declared.Checked.the-variants.{Accepted, Refused}
+use Rattle.rules.specs.declared.Checked.the-variants.{Accepted, Refused}
 use Rattle.file.specs.Rules.{recordsOf, rulesOf, checkedOf}
 use Rattle.file.specs.Laws.{FirstFailing, all-hold, accepted-all, first-failing}
 use Rattle.file.specs.Holds.{Holds, rules-hold, rules-all}

@@ -8,8 +8,8 @@ use lib.ListN.{length, drop}
 use Rattle.refusal.specs.declared.Refusal.{Refusal}
 use Rattle.refusal.specs.declared.Refusal.the-variants.{NoRoom}
 use Rattle.le.specs.Le.{Bytes as IsBytes}
-use Rattle.file.specs.declared.Checked.{Checked}
-use Rattle.file.specs.declared.Checked.the-variants as checked
+use Rattle.rules.specs.declared.Checked.{Checked}
+use Rattle.rules.specs.declared.Checked.the-variants as checked
 use Rattle.file.specs.Rules.{checkedOf}
 use Rattle.cursor.specs.declared.Cursor.{Cursor}
 use Rattle.cursor.specs.declared.Started.the-variants as started

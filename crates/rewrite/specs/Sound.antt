@@ -18,7 +18,7 @@ use Rattle.header.specs.Judged.{readBy, readOf, paddedTo}
 use Rattle.header.specs.Laws.{accepted, within, agreed}
 use Rattle.outline.specs.declared.Outline.{Outline}
 use Rattle.outline.specs.Outline.{outlineOf}
-use Rattle.file.specs.declared.Checked.the-variants as checked
+use Rattle.rules.specs.declared.Checked.the-variants as checked
 use Rattle.file.specs.Rules.{pointsEnd, checkedOf}
 use Rattle.file.specs.Holds.{Run, Holds}
 use Rattle.file.specs.Points.{format-len}

@@ -15,8 +15,8 @@ use Rattle.header.specs.Layout.{VersionMinor, StartOfFirstEvlr, NumberOfEvlrs}
 use Rattle.header.specs.Header.{number}
 use Rattle.header_write.specs.Back.{Paired}
 use Rattle.outline.specs.declared.Outline.{Outline}
-use Rattle.file.specs.declared.Checked.the-variants.{Accepted}
-use Rattle.file.specs.declared.Checked.the-variants as checked
+use Rattle.rules.specs.declared.Checked.the-variants.{Accepted}
+use Rattle.rules.specs.declared.Checked.the-variants as checked
 use Rattle.file.specs.Rules.{checkedOf}
 use Rattle.file.specs.Theorems.{accepted-holds}
 use Rattle.cursor.specs.declared.Part.{Part}

@@ -9,7 +9,7 @@ use Rattle.format.specs.Fields.{recordBytes}
 use Rattle.header.specs.Judged.{readOf}
 use Rattle.outline.specs.declared.Outline.{Outline}
 use Rattle.outline.specs.Outline.{outlineOf}
-use Rattle.file.specs.declared.Checked.the-variants.{Accepted}
+use Rattle.rules.specs.declared.Checked.the-variants.{Accepted}
 use Rattle.file.specs.Rules.{pointsEnd, checkedOf}
 use Rattle.file.specs.Points.{pointFormat, length-fits, format-long}
 use Rattle.file.specs.Theorems.{accepted-holds}

@@ -7,8 +7,8 @@ use Rattle.format.specs.Format.{plain}
 use Rattle.header.specs.Judged.{readOf}
 use Rattle.outline.specs.declared.Outline.{Outline}
 use Rattle.outline.specs.Outline.{outlineOf}
-use Rattle.file.specs.declared.Checked.{Checked}
-use Rattle.file.specs.declared.Checked.the-variants as checked
+use Rattle.rules.specs.declared.Checked.{Checked}
+use Rattle.rules.specs.declared.Checked.the-variants as checked
 use Rattle.file.specs.Rules.{checkedOf}
 use Rattle.file.specs.Points.{pointFormat}
 use Rattle.walker.specs.declared.Start.the-variants as start

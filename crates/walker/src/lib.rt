@@ -2,7 +2,6 @@
 ghost use mathlib.Core.Path.{_≡_};
 ghost use Rattle.walker.specs.Begin.{firstPlace, refusedPlace, beginOf, walkerOf};
 ghost use Rattle.walker.specs.Walk.{wholeAt, recordOf, refusalOf, tookOf, nextOf};
-use file::Checked;
 use format::Format;
 use format::FormatLen;
 use header::Header;
@@ -10,6 +9,7 @@ use outline::Outline;
 use point::Point;
 use point::PointRead;
 use refusal::Refusal;
+use rules::Checked;
 
 // How the walk began: the file check's answer, and its record number beside a refusal.
 pub enum Start {

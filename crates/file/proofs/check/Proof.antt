@@ -3,7 +3,8 @@ use borrow.Author.Needs.{needs}
 use Rattle.header.specs.declared.HeaderRead.{HeaderRead}
 use Rattle.header.specs.declared.HeaderAnswer.the-variants.{Whole, Refused}
 use Rattle.header.specs.Judged.{judged}
-use Rattle.file.specs.Rules.{first, recordNumber, readable, standardSize, rulesOf, checkedOf}
+use Rattle.rules.specs.Rules.{first, recordNumber}
+use Rattle.file.specs.Rules.{readable, standardSize, rulesOf, checkedOf}
 use Rattle.file.specs.Laws.{answer-is, header-number}
 use Rattle.file.proofs.check.Statement.{statement}
 use Rattle.file.proofs.check.Tie as tie

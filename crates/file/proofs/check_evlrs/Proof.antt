@@ -6,9 +6,10 @@ use native.Mathlib.Omega.{arith}
 use borrow.Author.Needs.{needs}
 use borrow.Author.Tests.{eq-eqb, ne-eqb, le-leb}
 use Rattle.refusal.proofs.Tests.{tests}
-use Rattle.file.specs.declared.Checked.the-variants.{Accepted}
-use Rattle.file.specs.Rules.{first, recordNumber, recordRules, evlrRules, recordsOf}
-use Rattle.file.proofs.Walk.{lent-rest}
+use Rattle.rules.specs.declared.Checked.the-variants.{Accepted}
+use Rattle.rules.specs.Rules.{first, recordNumber, recordRules}
+use Rattle.file.specs.Rules.{evlrRules, recordsOf}
+use Rattle.rules.proofs.Walk.{lent-rest}
 use Rattle.file.proofs.check_evlrs.Statement.{statement}
 use Rattle.file.proofs.check_evlrs.Tie as tie
 

@@ -1,8 +1,9 @@
 use mathlib.Core.Path.{sym, _∙_}
 use borrow.Author.Needs.{needs}
 use lib.ListN.{length}
-use Rattle.file.specs.declared.Checked.the-variants.{Accepted}
-use Rattle.file.specs.Rules.{headerRules, partRules, outlineRules, recordsOf}
+use Rattle.rules.specs.declared.Checked.the-variants.{Accepted}
+use Rattle.rules.specs.Rules.{headerRules}
+use Rattle.file.specs.Rules.{partRules, outlineRules, recordsOf}
 use Rattle.file.specs.Laws.{accepted-all}
 use Rattle.file.proofs.Then.{then-refused, then-accepted, bounded}
 use Rattle.file.proofs.check_outline.Statement.{statement}

@@ -1,6 +1,6 @@
 use Prim.Native.Nat.{_+_, _-_}
 use borrow.Author.Needs.{needs}
-use Rattle.file.specs.declared.Checked.the-variants.{Accepted}
+use Rattle.rules.specs.declared.Checked.the-variants.{Accepted}
 use Rattle.file.specs.Rules.{partRules, vlrRules, vlrBytes, pointRule, evlrRules, recordsOf}
 use Rattle.file.proofs.Then.{then-refused, then-accepted}
 use Rattle.file.proofs.check_parts.Statement.{statement}

@@ -4,7 +4,8 @@ use native.Mathlib.Omega.{arith}
 use borrow.Author.Needs.{needs}
 use borrow.Author.Tests.{lt-leb, le-leb}
 use lib.ListN.{length}
-use Rattle.file.specs.Rules.{first, recordNumber, pointRule, pointsEnd}
+use Rattle.rules.specs.Rules.{first, recordNumber}
+use Rattle.file.specs.Rules.{pointRule, pointsEnd}
 use Rattle.file.proofs.Then.{beyond, inside}
 use Rattle.file.proofs.check_points.Statement.{statement}
 use Rattle.file.proofs.check_points.Tie as tie

@@ -1,0 +1,135 @@
+// Whether a whole run of point records goes, as document 01 orders it: by its pair of formats, by the lengths of source and
+// destination, and on its way down by each of its records.
+ghost use mathlib.Core.Path.{_≡_};
+ghost use Prim.Native.Nat.{_*_, _≤_, _<_};
+ghost use lib.ListN.{length};
+ghost use Rattle.refusal.specs.Table.{wantedOf};
+ghost use Rattle.point.specs.Read.{pointOf};
+ghost use Rattle.strict.specs.Fit.{fitOf};
+ghost use Rattle.pairs.specs.Sound.{Sound, PlannedSound};
+ghost use Rattle.judge.specs.Judge.{judgeRun, judgedOf, verdictBy, oldVerdict, newVerdict};
+use format::Format;
+use pairs::Plan;
+use pairs::Planned;
+use refusal::Refusal;
+use strict::Fit;
+
+// Whether a whole run goes, or why not, with the record's number.
+pub enum Judged {
+    Fits,
+    Refused { refusal: Refusal, record: u64 },
+}
+
+// The plan that a run goes by, or why it does not go, with the record's number.
+pub enum Verdict {
+    Goes(Plan),
+    Refused { refusal: Refusal, record: u64 },
+}
+
+// Whether `count` records of a new format, each with `extra` extra bytes, go down to the old format of its pair, in a destination
+// of `room` bytes. Refused: 26 where the format has no pair; 8 where a record of the source, then of the target, is over 65,535
+// bytes; 1 where the source is short; 22 where the destination is; then 15 to 21 with the number of the first record that does
+// not fit.
+pub fn to_old(src: &[u8], format: u8, extra: u16, count: u64, room: usize) -> Verdict
+    ensures { λ r. ⌜ r ≡ oldVerdict format extra count (now (src .entry)) room ⌝ }
+{
+    verdict_on(
+        src,
+        pairs::to_old(format, extra),
+        count as usize,
+        false,
+        room,
+    )
+}
+
+// The same for an upgrade to the new format of the pair; no record is refused.
+pub fn to_new(src: &[u8], format: u8, extra: u16, count: u64, room: usize) -> Verdict
+    ensures { λ r. ⌜ r ≡ newVerdict format extra count (now (src .entry)) room ⌝ }
+{
+    verdict_on(
+        src,
+        pairs::to_new(format, extra),
+        count as usize,
+        true,
+        room,
+    )
+}
+
+// The verdict on a run with this plan; `up` says whether it is upgraded.
+fn verdict_on(src: &[u8], planned: Planned, count: usize, up: bool, room: usize) -> Verdict
+    requires { ⌜ PlannedSound up planned ⌝ }
+    ensures { λ r. ⌜ r ≡ verdictBy up count (now (src .entry)) room planned ⌝ }
+{
+    match planned {
+        Planned::Is(plan) => match judge(src, plan, count, up, room) {
+            Judged::Fits => Verdict::Goes(plan),
+            Judged::Refused { refusal, record } => Verdict::Refused { refusal, record },
+        },
+        Planned::Refused(refusal) => Verdict::Refused { refusal, record: 0 },
+    }
+}
+
+// What the run is refused with, where the destination has `room` bytes.
+fn judge(src: &[u8], plan: Plan, count: usize, up: bool, room: usize) -> Judged
+    requires { ⌜ Sound up plan ⌝ }
+    ensures { λ r. ⌜ r ≡ judgedOf up plan count (now (src .entry)) room ⌝ }
+{
+    if src.len() / plan.source_length < count {
+        return Judged::Refused {
+            refusal: Refusal::Short(wanted(count, plan.source_length)),
+            record: 0,
+        };
+    }
+    if room / plan.target_length < count {
+        return Judged::Refused {
+            refusal: Refusal::NoRoom(wanted(count, plan.target_length)),
+            record: 0,
+        };
+    }
+    if up {
+        return Judged::Fits;
+    }
+    judge_records(src, plan.source, plan.source_length, count)
+}
+
+// A number of bytes, 0 if it is over 2^64 - 1.
+fn wanted(count: usize, length: usize) -> u64
+    requires { ⌜ 0 < «length» ⌝ }
+    ensures { λ r. ⌜ r ≡ wantedOf (count * «length») ⌝ }
+{
+    if 18446744073709551615 / length < count {
+        return 0;
+    }
+    (count * length) as u64
+}
+
+// The first record that does not fit, with its number.
+fn judge_records(src: &[u8], format: Format, m: usize, count: usize) -> Judged
+    requires { ⌜ count * m ≤ length (now src) ⌝ }
+    ensures { λ r. ⌜ r ≡ judgeRun format m 1 count (now (src .entry)) ⌝ }
+{
+    let mut at = 0;
+    let mut left = count;
+    while 0 < left {
+        if let Fit::Refused(refusal) = judge_record(&src[at..at + m], format) {
+            return Judged::Refused {
+                refusal,
+                record: (count - left + 1) as u64,
+            };
+        }
+        at += m;
+        left -= 1;
+    }
+    Judged::Fits
+}
+
+// Whether a record fits, by the three fields that decide it.
+fn judge_record(src: &[u8], format: Format) -> Fit
+    ensures { λ r. ⌜ r ≡ fitOf (pointOf format (now (src .entry))) ⌝ }
+{
+    strict::check_fields(
+        point::flags_in(src, format),
+        point::nir_in(src, format),
+        point::scan_angle_in(src, format),
+    )
+}
