@@ -64,7 +64,8 @@
 //! What is proved, and what is trusted, is in `docs/TRUST.md` of the repository: the rules, layouts and conversions are
 //! proved; this crate, which declares the library's calls by hand and turns their numbers into types, is tested.
 
-#![deny(unsafe_code, missing_docs, rustdoc::broken_intra_doc_links)]
+#![forbid(unsafe_code)]
+#![deny(missing_docs, rustdoc::broken_intra_doc_links)]
 #![cfg_attr(
     not(test),
     deny(

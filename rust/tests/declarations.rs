@@ -1,4 +1,4 @@
-//! What the crate declares of the library's calls is what the library's sources export.
+//! What inscjarol-sys declares of the library's calls is what the library's sources export, all of it.
 
 use std::{collections::BTreeMap, fs, path::Path};
 
@@ -61,9 +61,15 @@ fn declarations_are_those_of_the_sources() {
     }
     assert!(exported.len() > 40);
 
-    let sys = fs::read_to_string(here.join("src/sys.rs")).unwrap();
-    let (_, block) = sys.split_once("extern \"C\" {").unwrap();
-    let (block, _) = block.split_once("\n}\n").unwrap();
+    let sys = fs::read_to_string(here.join("sys/src/lib.rs")).unwrap();
+    let ours: BTreeMap<String, Types> = ["\ntotal! {", "\nmod lent {"]
+        .iter()
+        .flat_map(|begin| {
+            let (_, block) = sys.split_once(begin).unwrap();
+            let (block, _) = block.split_once("\n}\n").unwrap();
+            calls(block)
+        })
+        .collect();
     // The names that the file gives to arrays.
     let aliases: Vec<(String, String)> = sys
         .lines()
@@ -75,9 +81,8 @@ fn declarations_are_those_of_the_sources() {
         })
         .map(|(name, of)| (name.to_string(), of.to_string()))
         .collect();
-    assert_eq!(aliases.len(), 4);
-    let ours = calls(block);
-    assert!(ours.len() > 40);
+    assert_eq!(aliases.len(), 5);
+    assert!(ours.keys().eq(exported.keys()));
     for (name, types) in ours {
         let types: Types = types
             .into_iter()

@@ -12,7 +12,7 @@ fn folder() -> PathBuf {
         Some(folder) => PathBuf::from(folder),
         None => {
             let here = env::var_os("CARGO_MANIFEST_DIR").unwrap_or_default();
-            PathBuf::from(here).join("../target/staticlib")
+            PathBuf::from(here).join("../../target/staticlib")
         }
     }
 }
