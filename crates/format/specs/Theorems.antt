@@ -2,9 +2,8 @@
 use Prim.Native.Nat.{ℕ}
 use mathlib.Core.Path.{_≡_, refl}
 use mathlib.Core.Bool.{false}
-use mathlib.Core.List.{List, [], _∷_, map}
+use mathlib.Core.List.{[], _∷_, map}
 use Rattle.format.specs.declared.Format.{Format}
-use Rattle.format.specs.declared.FormatCode.{FormatCode}
 use Rattle.format.specs.declared.FormatCode.the-variants.{Is}
 use Rattle.format.specs.Fields.{fieldsOf, Follow, sizes, recordBytes}
 use Rattle.format.specs.Laws.{fields-follow}
