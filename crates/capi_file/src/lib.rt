@@ -1,16 +1,20 @@
-// Whole files for C and Rust: the file check, the parts and rewriting. A part crosses the boundary as the three numbers of the crate
+// Whole files for C and Rust: the file check, the parts, rewriting and the format of the points. A part crosses the boundary as the three numbers of the crate
 // capi_cursor. Rows are those of the crate words.
 ghost use mathlib.Core.Path.{_≡_};
 ghost use mathlib.Core.List.{_++_};
 ghost use Prim.Native.Nat.{_*_, _≤_};
 ghost use lib.ListN.{length, drop};
+ghost use Rattle.header.specs.Judged.{readOf};
 ghost use Rattle.file.specs.Rules.{checkedOf};
 ghost use Rattle.cursor.specs.Cursor.{leftOf, startedOf};
 ghost use Rattle.rewrite.specs.Rewritten.{rewrittenOf};
-ghost use Rattle.capi_file.specs.Rows.{checkedRow, rewroteRow};
+ghost use Rattle.capi_file.specs.Rows.{checkedRow, rewroteRow, formatRow};
 ghost use Rattle.capi_file.specs.Parts.{numbersOf, partsRow};
 use cursor::Cursor;
 use cursor::Started;
+use header::Header;
+use header::HeaderAnswer;
+use outline::Outline;
 use refusal::Refusal;
 use rewrite::Rewrote;
 use rules::Checked;
@@ -61,6 +65,23 @@ pub extern "C" fn las_file_rewrite(file: &[u8], allowance: u64, dst: &mut [u8], 
     match rewrite::rewrite(file, allowance, dst) {
         Rewrote::Bytes(n) => words::tell(row, 0, n as u64, 0),
         Rewrote::Refused { refusal, record } => words::refuse(row, refusal, record),
+    }
+}
+
+// The format of the points, by the header at the front of s, as a format word.
+#[no_mangle]
+pub extern "C" fn las_header_point_format(s: &[u8], row: &mut [u64; 3])
+    ensures { λ _. ⌜ now (row .exit) ≡ formatRow (readOf (now (s .entry))) ⌝ }
+{
+    let read = Header::read_from(s);
+    let answer = read.answer;
+    let header = read.header;
+    match answer {
+        HeaderAnswer::Whole { block: _, end: _ } => {
+            let format = file::point_format(Outline::of(header));
+            words::tell(row, 0, words::format_word(format) as u64, 0)
+        }
+        HeaderAnswer::Refused(refusal) => words::refuse(row, refusal, 0),
     }
 }
 

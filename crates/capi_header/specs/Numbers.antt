@@ -5,7 +5,6 @@ use mathlib.Core.List.{List, [], _∷_, _++_}
 use lib.Ieee.{Float, binary64}
 use lib.ListN.{getD, length}
 use Rattle.le.specs.Real.{patternOf}
-use Rattle.words.specs.Words.{formatWord}
 use Rattle.words.specs.Rows.{refusedRow}
 use Rattle.header.specs.declared.OptionU64.{OptionU64}
 use Rattle.header.specs.declared.OptionU64.the-variants as start
@@ -24,8 +23,6 @@ use Rattle.header.specs.declared.EndOfPoints.the-variants as end
 use Rattle.header.specs.Header.{largeBack, pointsOf, endOfPoints}
 use Rattle.header.specs.Judged.{readOf, paddingOf}
 use Rattle.header_write.specs.Bytes.{startBack, evlrBack}
-use Rattle.outline.specs.Outline.{outlineOf}
-use Rattle.file.specs.Points.{pointFormat}
 
 -- the number at place k, and the n numbers from there on
 abbrev pub nth : List ℕ → ℕ → ℕ
@@ -116,9 +113,6 @@ endBy (end.Refused r) = refusedRow r 0
 
 unfoldable pub endRow : HeaderRead → List ℕ
 endRow r = toldBy (endBy (endOfPoints (r .header))) (r .answer)
-
-unfoldable pub formatRow : HeaderRead → List ℕ
-formatRow r = toldBy (0 ∷ formatWord (pointFormat (outlineOf (r .header))) ∷ 0 ∷ []) (r .answer)
 
 abbrev pub sizeRow : StandardSize → List ℕ
 sizeRow (standard.Is n) = 0 ∷ n ∷ 0 ∷ []

@@ -16,7 +16,7 @@ ghost use mathlib.Core.Bool.{cond};
 ghost use Rattle.header.specs.Header.{noLarge, defaultHeader, endOfPoints};
 ghost use Rattle.header.specs.Judged.{standardOf, readOf};
 ghost use Rattle.header_write.specs.Bytes.{startBack, evlrBack};
-ghost use Rattle.capi_header.specs.Numbers.{hasStart, hasEvlr, hasLarge, numbersOf, lentOf, readRow, blockOf, paddingPart, pointsRow, endBy, endRow, formatRow, sizeRow};
+ghost use Rattle.capi_header.specs.Numbers.{hasStart, hasEvlr, hasLarge, numbersOf, lentOf, readRow, blockOf, paddingPart, pointsRow, endBy, endRow, sizeRow};
 use header::EndOfPoints;
 use header::Evlr;
 use header::Header;
@@ -27,7 +27,6 @@ use header::OptionU64;
 use header::StandardSize;
 use header::Version;
 use le::float;
-use outline::Outline;
 
 // The header at the front of s; the row's value is where it ends with its padding. Refused, it leaves all but the row.
 #[no_mangle]
@@ -96,23 +95,6 @@ pub extern "C" fn las_header_end_of_points(s: &[u8], row: &mut [u64; 3])
     let header = read.header;
     match answer {
         HeaderAnswer::Whole { block: _, end: _ } => tell_end(row, header),
-        HeaderAnswer::Refused(refusal) => words::refuse(row, refusal, 0),
-    }
-}
-
-// The format of the points, by the header at the front of s, as a format word.
-#[no_mangle]
-pub extern "C" fn las_header_point_format(s: &[u8], row: &mut [u64; 3])
-    ensures { λ _. ⌜ now (row .exit) ≡ formatRow (readOf (now (s .entry))) ⌝ }
-{
-    let read = Header::read_from(s);
-    let answer = read.answer;
-    let header = read.header;
-    match answer {
-        HeaderAnswer::Whole { block: _, end: _ } => {
-            let format = file::point_format(Outline::of(header));
-            words::tell(row, 0, words::format_word(format) as u64, 0)
-        }
         HeaderAnswer::Refused(refusal) => words::refuse(row, refusal, 0),
     }
 }

@@ -81,11 +81,22 @@ fn replay_point(s: &[u8], from: u32, to: u32, dst: &mut [u8]) {
         print_end();
         return;
     }
-    print_point(&numbers);
     let extra = point::extra_bytes(s, words::format_of(from));
+    print_point(&numbers, extra);
+    write_point(&numbers, extra, to, dst);
+}
+
+// The rest of a point's line.
+fn print_point(numbers: &[u64; 24], extra: &[u8]) {
+    print_numbers(numbers);
     print_bytes(extra);
     print_end();
-    capi_point::las_point_write(&numbers, extra, to, dst, &mut row);
+}
+
+// A point written in a format.
+fn write_point(numbers: &[u64; 24], extra: &[u8], to: u32, dst: &mut [u8]) {
+    let mut row = [0u64; 3];
+    capi_point::las_point_write(numbers, extra, to, dst, &mut row);
     print_written(row[0], row[1], dst);
 }
 
@@ -108,13 +119,31 @@ fn replay_vlr(s: &[u8], from: bool, to: bool, dst: &mut [u8]) {
         print_end();
         return;
     }
-    print_head(&numbers);
-    print_text16(&user_id);
-    print_text32(&description);
     let data = vlr::data(s, from);
+    print_vlr(&numbers, &user_id, &description, data);
+    write_vlr(to, &numbers, &user_id, &description, data, dst);
+}
+
+// The rest of a VLR's or EVLR's line.
+fn print_vlr(numbers: &[u64; 3], user_id: &[u8; 16], description: &[u8; 32], data: &[u8]) {
+    print_numbers(numbers);
+    print_bytes(user_id);
+    print_bytes(description);
     print_bytes(data);
     print_end();
-    capi_vlr::las_vlr_write(to, &numbers, &user_id, &description, data, dst, &mut row);
+}
+
+// A VLR or EVLR written as the one or the other.
+fn write_vlr(
+    to: bool,
+    numbers: &[u64; 3],
+    user_id: &[u8; 16],
+    description: &[u8; 32],
+    data: &[u8],
+    dst: &mut [u8],
+) {
+    let mut row = [0u64; 3];
+    capi_vlr::las_vlr_write(to, numbers, user_id, description, data, dst, &mut row);
     print_written(row[0], row[1], dst);
 }
 
@@ -138,26 +167,48 @@ fn replay_header(s: &[u8], minor: u32, dst: &mut [u8]) {
         print_end();
         return;
     }
-    print_header(&numbers);
-    print_text16(&guid);
-    print_text32(&system);
-    print_text32(&software);
     let padding = header::padding(s);
+    print_header(&numbers, &guid, &system, &software, padding);
+    print_end_of_points(s);
+    numbers[3] = minor as u64;
+    write_header(&numbers, &guid, &system, &software, padding, dst);
+}
+
+// The rest of a header's line.
+fn print_header(
+    numbers: &[u64; 51],
+    guid: &[u8; 16],
+    system: &[u8; 32],
+    software: &[u8; 32],
+    padding: &[u8],
+) {
+    print_numbers(numbers);
+    print_bytes(guid);
+    print_bytes(system);
+    print_bytes(software);
     print_bytes(padding);
     print_end();
+}
+
+// The line of the end of points of the header at the front of s.
+fn print_end_of_points(s: &[u8]) {
+    let mut row = [0u64; 3];
     capi_header::las_header_end_of_points(s, &mut row);
     print_row(b"end", row[0], row[1]);
     print_end();
-    numbers[3] = minor as u64;
-    capi_header_write::las_header_write(
-        &numbers,
-        &guid,
-        &system,
-        &software,
-        padding,
-        dst,
-        &mut row,
-    );
+}
+
+// A header and its padding, written.
+fn write_header(
+    numbers: &[u64; 51],
+    guid: &[u8; 16],
+    system: &[u8; 32],
+    software: &[u8; 32],
+    padding: &[u8],
+    dst: &mut [u8],
+) {
+    let mut row = [0u64; 3];
+    capi_header_write::las_header_write(numbers, guid, system, software, padding, dst, &mut row);
     print_written(row[0], row[1], dst);
 }
 
@@ -202,27 +253,4 @@ fn print_bytes(bytes: &[u8]) {
 
 fn print_byte(byte: u8) {
     io::print_hex(STDOUT_FILENO, byte as u64, 2);
-}
-
-// What the boundary fills, each lent as the array that it is: an array that a call has filled is not lent as a slice where
-// it stands, since its count would have to be shown there anew.
-
-fn print_point(numbers: &[u64; 24]) {
-    print_numbers(numbers);
-}
-
-fn print_head(numbers: &[u64; 3]) {
-    print_numbers(numbers);
-}
-
-fn print_header(numbers: &[u64; 51]) {
-    print_numbers(numbers);
-}
-
-fn print_text16(text: &[u8; 16]) {
-    print_bytes(text);
-}
-
-fn print_text32(text: &[u8; 32]) {
-    print_bytes(text);
 }
