@@ -13,8 +13,9 @@ use Rattle.header.specs.Judged.{judged, readOf}
 use Rattle.outline.specs.declared.Outline.{Outline}
 use Rattle.rules.specs.declared.Checked.the-variants as checked
 use Rattle.rules.specs.Rules.{Rule, rule, headerRules, recordRules}
-use Rattle.file.specs.Rules.{readable, standardSize, pointsEnd, vlrBytes, vlrRules, pointRule, evlrRules, partRules, outlineRules, rulesOf, checkedOf}
-use Rattle.file.specs.Laws.{All, accepted-all}
+use Rattle.extents.specs.Extents.{pointsEnd, vlrBytes, vlrRules, pointRule, evlrRules, partRules, outlineRules}
+use Rattle.file.specs.Rules.{readable, standardSize, rulesOf, checkedOf}
+use Rattle.extents.specs.Laws.{All, accepted-all}
 use Rattle.file.specs.Holds.{Run, all-split}
 use Rattle.cursor.specs.Parts.{between, outlineIn, evlrsStart, Laid}
 

@@ -12,7 +12,7 @@ use lib.Seq.{take-add, drop-drop}
 use Rattle.vlr.specs.Vlr.{recordSize}
 use Rattle.vlr.specs.Laws.{takes}
 use Rattle.outline.specs.declared.Outline.{Outline}
-use Rattle.file.specs.Rules.{pointsEnd}
+use Rattle.extents.specs.Extents.{pointsEnd}
 use Rattle.file.specs.Holds.{Run}
 use Rattle.cursor.specs.declared.Kind.{Kind}
 use Rattle.cursor.specs.declared.Kind.the-variants as kind

@@ -10,7 +10,8 @@ use Rattle.vlr.specs.Vlr.{extentOf}
 use Rattle.outline.specs.declared.Outline.{Outline}
 use Rattle.rules.specs.declared.Checked.{Checked}
 use Rattle.rules.specs.declared.Checked.the-variants as checked
-use Rattle.file.specs.Rules.{pointsEnd, checkedOf}
+use Rattle.extents.specs.Extents.{pointsEnd}
+use Rattle.file.specs.Rules.{checkedOf}
 use Rattle.cursor.specs.declared.Kind.{Kind}
 use Rattle.cursor.specs.declared.Kind.the-variants as kind
 use Rattle.cursor.specs.declared.Part.{Part}

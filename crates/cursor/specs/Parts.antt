@@ -9,7 +9,7 @@ use Rattle.vlr.specs.Vlr.{recordSize}
 use Rattle.header.specs.Judged.{readOf}
 use Rattle.outline.specs.declared.Outline.{Outline}
 use Rattle.outline.specs.Outline.{outlineOf}
-use Rattle.file.specs.Rules.{pointsEnd}
+use Rattle.extents.specs.Extents.{pointsEnd}
 use Rattle.file.specs.Holds.{Run}
 use Rattle.cursor.specs.declared.Kind.{Kind}
 use Rattle.cursor.specs.declared.Kind.the-variants.{Header, Vlr, Gap, Points, Evlr}

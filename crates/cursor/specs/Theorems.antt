@@ -8,7 +8,8 @@ use lib.ListN.{length, take}
 use lib.Seq.{take-length}
 use Rattle.vlr.specs.Vlr.{recordSize}
 use Rattle.rules.specs.declared.Checked.the-variants as checked
-use Rattle.file.specs.Rules.{pointsEnd, checkedOf}
+use Rattle.extents.specs.Extents.{pointsEnd}
+use Rattle.file.specs.Rules.{checkedOf}
 use Rattle.cursor.specs.declared.Kind.the-variants.{Header, Vlr, Gap, Points}
 use Rattle.cursor.specs.declared.Part.{Part}
 use Rattle.cursor.specs.declared.Cursor.{Cursor}

@@ -2,7 +2,7 @@
 // gap, the EVLRs and the gap after them; empty gaps are left out.
 ghost use mathlib.Core.Path.{_≡_};
 ghost use Prim.Native.Nat.{_<_, _-_};
-ghost use Rattle.file.specs.Rules.{pointsEnd};
+ghost use Rattle.extents.specs.Extents.{pointsEnd};
 ghost use Rattle.cursor.specs.Parts.{between, evlrsStart};
 ghost use Rattle.cursor.specs.Cursor.{planOf, firstOf, startedOf, told, ended, recordStep, headerStep, pointsStep, vlrsStep, evlrsStep, betweenStep, stepOf};
 use header::Header;

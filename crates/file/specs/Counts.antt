@@ -18,8 +18,9 @@ use Rattle.outline.specs.Outline.{outlineOf}
 use Rattle.rules.specs.declared.Checked.{Checked}
 use Rattle.rules.specs.declared.Checked.the-variants.{Accepted, Refused}
 use Rattle.rules.specs.Rules.{Rule, refusedBy, first, headerRules, recordRules}
-use Rattle.file.specs.Rules.{readable, standardSize, pointsEnd, vlrBytes, vlrRules, pointRule, evlrRules, partRules, outlineRules, recordsOf, rulesOf, checkedOf}
-use Rattle.file.specs.Laws.{All}
+use Rattle.extents.specs.Extents.{pointsEnd, vlrBytes, vlrRules, pointRule, evlrRules, partRules, outlineRules, recordsOf}
+use Rattle.file.specs.Rules.{readable, standardSize, rulesOf, checkedOf}
+use Rattle.extents.specs.Laws.{All}
 use Rattle.file.specs.Holds.{Run, PartsHold, some, records-hold, rules-hold}
 
 -- the number of records found whole that an answer carries

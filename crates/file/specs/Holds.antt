@@ -16,8 +16,9 @@ use Rattle.header.specs.Judged.{judged, readOf}
 use Rattle.outline.specs.declared.Outline.{Outline}
 use Rattle.outline.specs.Outline.{outlineOf}
 use Rattle.rules.specs.Rules.{Rule, rule, highestFormat, formatBytes, headerRules, recordRules}
-use Rattle.file.specs.Rules.{pointsEnd, vlrBytes, vlrRules, pointRule, evlrRules, partRules, outlineRules, readable, standardSize, rulesOf}
-use Rattle.file.specs.Laws.{All}
+use Rattle.extents.specs.Extents.{pointsEnd, vlrBytes, vlrRules, pointRule, evlrRules, partRules, outlineRules}
+use Rattle.file.specs.Rules.{readable, standardSize, rulesOf}
+use Rattle.extents.specs.Laws.{All}
 
 -- k records one after the other at the start of `rest`, each ending in it
 abbrev pub Run : Bool → ℕ → List ℕ → Type 0

@@ -1,5 +1,4 @@
 pub mod Rules
-pub mod Steps
 pub mod Laws
 pub mod Holds
 pub mod Counts

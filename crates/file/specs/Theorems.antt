@@ -7,8 +7,10 @@ use Rattle.refusal.specs.declared.Refusal.{Refusal}
 use Rattle.header.specs.Judged.{readOf}
 use Rattle.outline.specs.Outline.{outlineOf}
 use Rattle.rules.specs.declared.Checked.the-variants.{Accepted, Refused}
-use Rattle.file.specs.Rules.{recordsOf, rulesOf, checkedOf}
-use Rattle.file.specs.Laws.{FirstFailing, all-hold, accepted-all, first-failing}
+use Rattle.extents.specs.Extents.{recordsOf}
+use Rattle.file.specs.Rules.{rulesOf, checkedOf}
+use Rattle.extents.specs.Laws.{all-hold, accepted-all}
+use Rattle.file.specs.Laws.{FirstFailing, first-failing}
 use Rattle.file.specs.Holds.{Holds, rules-hold, rules-all}
 use Rattle.file.specs.Counts.{foundOf, count-fits}
 

@@ -1,11 +1,7 @@
 // The file check: document 01, "When a file is accepted", rules 1 to 8 in their order.
 ghost use mathlib.Core.Path.{_≡_};
 ghost use Prim.Native.Nat.{_-_};
-ghost use mathlib.Core.List.{_∷_};
-ghost use Rattle.rules.specs.declared.Checked.the-variants as checked;
-ghost use Rattle.rules.specs.Rules.{first};
-ghost use Rattle.file.specs.Rules.{pointsEnd, pointRule, evlrRules, partRules, outlineRules, recordsOf, checkedOf};
-ghost use Rattle.file.specs.Steps.{Bounded};
+ghost use Rattle.file.specs.Rules.{checkedOf};
 ghost use Rattle.file.specs.Points.{pointFormat};
 ghost use Rattle.format.specs.Fields.{recordBytes};
 use format::Format;
@@ -14,7 +10,6 @@ use format::NewFormat;
 use header::Header;
 use header::HeaderAnswer;
 use outline::Outline;
-use refusal::Refusal;
 use rules::Checked;
 
 // Whether the file is accepted, by rules 1 to 8. The time grows with the records walked and not with the points.
@@ -27,80 +22,10 @@ pub fn check(file: &[u8], allowance: u64) -> Checked
     let answer = read.answer;
     match answer {
         HeaderAnswer::Whole { block, end: _ } => {
-            check_outline(file, allowance, block, version.minor, Outline::of(header))
+            extents::check(file, allowance, block, version.minor, Outline::of(header))
         }
         HeaderAnswer::Refused(refusal) => rules::refused(refusal, 0),
     }
-}
-
-// Rules 2 to 8, for a header whose standard size is `block`.
-fn check_outline(file: &[u8], allowance: u64, block: usize, minor: u8, o: Outline) -> Checked
-    ensures { λ r. ⌜ r ≡ first (outlineRules block minor allowance o (now (file .entry))) (checked.Accepted (recordsOf o)) ⌝ }
-{
-    let head = rules::check_header(block, minor, o, file.len());
-    let Checked::Accepted { records: _ } = head else {
-        return head;
-    };
-    check_parts(file, allowance, o)
-}
-
-// Rules 6 to 8.
-fn check_parts(file: &[u8], allowance: u64, o: Outline) -> Checked
-    requires { ⌜ Bounded o (now file) ⌝ }
-    ensures { λ r. ⌜ r ≡ first (partRules allowance o (now (file .entry))) (checked.Accepted (recordsOf o)) ⌝ }
-{
-    let from = o.header_size as usize;
-    let to = o.offset_to_point_data as usize;
-    let vlrs = rules::check_records(
-        &file[from..to],
-        false,
-        allowance,
-        0,
-        o.number_of_variable_length_records,
-    );
-    let Checked::Accepted { records: _ } = vlrs else {
-        return vlrs;
-    };
-    check_points(file, allowance, o)
-}
-
-// Rules 7 and 8. The points' end is tested by a division, so nothing wraps.
-fn check_points(file: &[u8], allowance: u64, o: Outline) -> Checked
-    requires { ⌜ Bounded o (now file) ⌝ }
-    ensures { λ r. ⌜ r ≡ first (pointRule o (now (file .entry)) ∷ evlrRules allowance o (now (file .entry))) (checked.Accepted (recordsOf o)) ⌝ }
-{
-    let offset = o.offset_to_point_data as usize;
-    let length = o.point_data_record_length as usize;
-    let count = o.number_of_point_records as usize;
-    if (file.len() - offset) / length < count {
-        return rules::refused(
-            Refusal::PointExtent(o.number_of_point_records),
-            o.number_of_variable_length_records as u64,
-        );
-    }
-    check_evlrs(file, allowance, o, offset + count * length)
-}
-
-// Rule 8, for points that end at `end`.
-fn check_evlrs(file: &[u8], allowance: u64, o: Outline, end: usize) -> Checked
-    requires { ⌜ end ≡ pointsEnd o ⌝ }
-    ensures { λ r. ⌜ r ≡ first (evlrRules allowance o (now (file .entry))) (checked.Accepted (recordsOf o)) ⌝ }
-{
-    let vlrs = o.number_of_variable_length_records;
-    let start = o.start_of_first_evlr;
-    if o.number_of_evlrs == 0 {
-        return Checked::Accepted {
-            records: vlrs as u64,
-        };
-    }
-    if start < end as u64 {
-        return rules::refused(Refusal::EvlrStart(start), vlrs as u64);
-    }
-    if (file.len() as u64) < start {
-        return rules::refused(Refusal::EvlrStart(start), vlrs as u64);
-    }
-    let rest = &file[start as usize..];
-    rules::check_records(rest, true, allowance, vlrs, o.number_of_evlrs)
 }
 
 // The format of a file's points, whose extra bytes fill the header's record length. Of a header that the check refuses:

@@ -19,7 +19,8 @@ use Rattle.header.specs.Laws.{accepted, within, agreed}
 use Rattle.outline.specs.declared.Outline.{Outline}
 use Rattle.outline.specs.Outline.{outlineOf}
 use Rattle.rules.specs.declared.Checked.the-variants as checked
-use Rattle.file.specs.Rules.{pointsEnd, checkedOf}
+use Rattle.extents.specs.Extents.{pointsEnd}
+use Rattle.file.specs.Rules.{checkedOf}
 use Rattle.file.specs.Holds.{Run, Holds}
 use Rattle.file.specs.Points.{format-len}
 use Rattle.file.specs.Theorems.{accepted-holds}

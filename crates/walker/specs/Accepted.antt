@@ -10,7 +10,8 @@ use Rattle.header.specs.Judged.{readOf}
 use Rattle.outline.specs.declared.Outline.{Outline}
 use Rattle.outline.specs.Outline.{outlineOf}
 use Rattle.rules.specs.declared.Checked.the-variants.{Accepted}
-use Rattle.file.specs.Rules.{pointsEnd, checkedOf}
+use Rattle.extents.specs.Extents.{pointsEnd}
+use Rattle.file.specs.Rules.{checkedOf}
 use Rattle.file.specs.Points.{pointFormat, length-fits, format-long}
 use Rattle.file.specs.Theorems.{accepted-holds}
 use Rattle.walker.specs.declared.Walker.{Walker}

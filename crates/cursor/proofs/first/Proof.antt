@@ -1,6 +1,6 @@
 use borrow.Author.Needs.{needs}
 use native.Mathlib.Omega.{arith}
-use Rattle.file.specs.Rules.{pointsEnd}
+use Rattle.extents.specs.Extents.{pointsEnd}
 use Rattle.cursor.specs.Cursor.{planOf, firstOf}
 use Rattle.cursor.proofs.first.Statement.{statement}
 use Rattle.cursor.proofs.first.Tie as tie

@@ -16,7 +16,7 @@ returns c =
     let s = c .before .before .before .before .before .before .before .before .before .args .file .now in
     let told = c .before .before .before .answer .given in
     let whole : judged s ≡ Whole (told .0 .0) (told .0 .1 .0) = sym (answer-is s) ∙ ap (λ (r : HeaderRead). r .answer) (sym (read .ensures)) ∙ told .1 in
-    rw (whole, ← (read .ensures), ← (c .before .of .ensures)) (c .check-outline .ensures)
+    rw (whole, ← (read .ensures), ← (c .before .of .ensures)) (c .check .ensures)
 
 returns-2 : tie.Need-returns-2
 unfolding checkedOf rulesOf readable first

@@ -5,10 +5,10 @@ use borrow.Author.Needs.{needs}
 use borrow.Author.Tests.{lt-leb, le-leb}
 use lib.ListN.{length}
 use Rattle.rules.specs.Rules.{first, recordNumber}
-use Rattle.file.specs.Rules.{pointRule, pointsEnd}
-use Rattle.file.proofs.Then.{beyond, inside}
-use Rattle.file.proofs.check_points.Statement.{statement}
-use Rattle.file.proofs.check_points.Tie as tie
+use Rattle.extents.specs.Extents.{pointRule, pointsEnd}
+use Rattle.extents.proofs.Then.{beyond, inside}
+use Rattle.extents.proofs.check_points.Statement.{statement}
+use Rattle.extents.proofs.check_points.Tie as tie
 
 returns : tie.Need-returns
 unfolding first pointRule pointsEnd recordNumber

@@ -3,11 +3,11 @@ use borrow.Author.Needs.{needs}
 use lib.ListN.{length}
 use Rattle.rules.specs.declared.Checked.the-variants.{Accepted}
 use Rattle.rules.specs.Rules.{headerRules}
-use Rattle.file.specs.Rules.{partRules, outlineRules, recordsOf}
-use Rattle.file.specs.Laws.{accepted-all}
-use Rattle.file.proofs.Then.{then-refused, then-accepted, bounded}
-use Rattle.file.proofs.check_outline.Statement.{statement}
-use Rattle.file.proofs.check_outline.Tie as tie
+use Rattle.extents.specs.Extents.{partRules, outlineRules, recordsOf}
+use Rattle.extents.specs.Laws.{accepted-all}
+use Rattle.extents.proofs.Then.{then-refused, then-accepted, bounded}
+use Rattle.extents.proofs.check.Statement.{statement}
+use Rattle.extents.proofs.check.Tie as tie
 
 returns : tie.Need-returns
 unfolding outlineRules
@@ -27,7 +27,7 @@ returns-2 c =
     let a = c .before .before .before .before .before .args in
     then-accepted (headerRules (a .block) (a .minor) (a .o) (length (a .file .now))) (partRules (a .allowance) (a .o) (a .file .now)) (Accepted (recordsOf (a .o))) 0 (c .before .before .before .check-header .ensures) (c .before .enum-told .given .1) (c .check-parts .ensures)
 
-pub check-outline-spec : {M : Type 1} → statement M
-check-outline-spec =
+pub check-spec : {M : Type 1} → statement M
+check-spec =
     tie.close
     (tie.spec (λ c κs. search needs) (λ c. search needs) (λ c. search needs) returns check-parts-requires returns-2)

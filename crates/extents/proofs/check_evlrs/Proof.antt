@@ -8,10 +8,10 @@ use borrow.Author.Tests.{eq-eqb, ne-eqb, le-leb}
 use Rattle.refusal.proofs.Tests.{tests}
 use Rattle.rules.specs.declared.Checked.the-variants.{Accepted}
 use Rattle.rules.specs.Rules.{first, recordNumber, recordRules}
-use Rattle.file.specs.Rules.{evlrRules, recordsOf}
+use Rattle.extents.specs.Extents.{evlrRules, recordsOf}
 use Rattle.rules.proofs.Walk.{lent-rest}
-use Rattle.file.proofs.check_evlrs.Statement.{statement}
-use Rattle.file.proofs.check_evlrs.Tie as tie
+use Rattle.extents.proofs.check_evlrs.Statement.{statement}
+use Rattle.extents.proofs.check_evlrs.Tie as tie
 
 returns : tie.Need-returns
 unfolding first evlrRules recordsOf

@@ -1,0 +1,3 @@
+pub mod Extents
+pub mod Steps
+pub mod Laws
