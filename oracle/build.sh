@@ -62,10 +62,9 @@ END
     echo "proving the port"
     quietly tools/libraries
 
-    # The program. Cargo runs the compiler in its folder, so the place of the library is relative to that.
+    # The program. rust/sys finds the library.
     echo "building las and $program"
-    CARGO_HOME=$PWD/$build/cargo CARGO_TARGET_DIR=$build/build \
-        RUSTFLAGS='--cap-lints warn -L native=../target/staticlib' \
+    CARGO_HOME=$PWD/$build/cargo CARGO_TARGET_DIR=$build/build RUSTFLAGS='--cap-lints warn' \
         cargo build --release --quiet --offline --manifest-path "$program/Cargo.toml"
 
     # What was compiled is every published file but copc.rs, which is for compressed points, and every stub; nothing else.

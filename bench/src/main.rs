@@ -3,6 +3,7 @@
 //!
 //! Every round times each contender once, in turn, so that what slows the machine for a while slows them all.
 
+mod large;
 mod work;
 
 use std::time::Instant;
@@ -114,6 +115,16 @@ impl Times {
     }
 }
 
+/// What so many units of work took, in nanoseconds a unit.
+fn timed(units: usize, work: impl FnOnce()) -> f64 {
+    let start = Instant::now();
+    work();
+    start.elapsed().as_nanos() as f64 / units as f64
+}
+
+/// How many rounds a large file is timed for.
+const LARGE_ROUNDS: usize = 401;
+
 /// How many rounds a line of so many records is timed for; an odd number, for the median.
 fn rounds(records: usize) -> usize {
     (100_000_000 / records).clamp(11, 401) | 1
@@ -138,10 +149,7 @@ impl Line {
         let mut times = passes.map(|_| Times(Vec::new()));
         for _ in 0..rounds(records) {
             for (pass, times) in passes.iter().zip(&mut times) {
-                let start = Instant::now();
-                pass(work);
-                let nanoseconds = start.elapsed().as_nanos() as f64;
-                times.0.push(nanoseconds / self.units(records) as f64);
+                times.0.push(timed(self.units(records), || pass(work)));
             }
         }
         times
@@ -195,6 +203,38 @@ fn grow() {
     }
 }
 
+/// A row for each large file: the shortest times of the check and of memcpy of what it looks at, and how many pages of the
+/// file the check was the first to touch.
+fn check_large() {
+    println!(
+        "| 1 GiB | points | VLRs | EVLRs | file check | a VLR or EVLR | memcpy of header and heads | pages |"
+    );
+    println!("|---|---|---|---|---|---|---|---|");
+    for large in large::FILES {
+        let mut work = large.make();
+        let pages = work.pages();
+        let records = work.records();
+        // As much work in a round as in one of the first table.
+        let calls = (6 * CHECKS / records).max(1);
+        let [mut memcpy, mut check] = [Times(Vec::new()), Times(Vec::new())];
+        for _ in 0..LARGE_ROUNDS {
+            let copied = timed(calls, || (0..calls).for_each(|_| work.copy_heads()));
+            memcpy.0.push(copied);
+            let checked = timed(calls, || (0..calls).for_each(|_| work.check()));
+            check.0.push(checked);
+        }
+        let [memcpy, check] = [memcpy, check].map(|times| times.shortest());
+        println!(
+            "| {} | {} | {} | {} | {check:.1} | {:.1} | {memcpy:.1} | {pages} |",
+            large.name,
+            work.plan.count,
+            work.plan.vlrs,
+            work.plan.evlrs,
+            check / records as f64,
+        );
+    }
+}
+
 fn main() {
     println!("Nanoseconds a record, of the file check nanoseconds a call; medians.\n");
     compare();
@@ -202,4 +242,6 @@ fn main() {
         "\nThe same by the number of points in the file or run: the port's, and the Rust's in brackets.\n"
     );
     grow();
+    println!("\nThe file check of files of 1 GiB: nanoseconds a call; shortest times.\n");
+    check_large();
 }

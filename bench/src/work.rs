@@ -7,17 +7,17 @@ use las::{
     raw::{Header, Point, Vlr},
 };
 use oracle::{
-    capi::{self, Numbers},
+    capi::{self, PointNumbers},
     format, point,
     records::{self, Lcg},
 };
 use std::hint::black_box;
 
-const HEADER: usize = 375;
+pub const HEADER: usize = 375;
 const VLRS: usize = 3;
 const VLR: usize = 54;
 const EVLRS: usize = 3;
-const EVLR: usize = 60;
+pub const EVLR: usize = 60;
 const POINTS_AT: usize = HEADER + VLRS * VLR;
 
 /// An allowance that the file does not use up.
@@ -43,7 +43,7 @@ pub struct Work {
     count: usize,
     file: Vec<u8>,
     points: Vec<Point>,
-    numbers: Vec<Numbers>,
+    numbers: Vec<PointNumbers>,
     columns: PointData,
     rust_made: Vec<u8>,
     rust_summed: [i64; 3],
@@ -98,13 +98,44 @@ impl Work {
     /// The port reads the Rust's numbers of every point that is kept, alone and walking over the file.
     pub fn check_numbers(&self) {
         let (mut place, mut row, mut numbers) = ([0; 7], [0; 3], [0; 24]);
-        capi::file_walker(&self.file, MANY, &mut place);
+        capi::las_file_walker(&self.file, MANY, &mut place);
         for (record, expected) in self.records().chunks_exact(self.record).zip(&self.numbers) {
-            capi::point_read(record, self.word, &mut row, &mut numbers);
+            capi::las_point_read(record, self.word, &mut row, &mut numbers);
             assert_eq!((row, &numbers), ([0; 3], expected));
-            capi::file_next(&self.file, &mut place, &mut row, &mut numbers);
+            capi::las_file_next(&self.file, &mut place, &mut row, &mut numbers);
             assert_eq!((row, &numbers), ([0; 3], expected));
         }
+    }
+}
+
+/// What a 1.4 header says of the rest of its file: VLRs without data after it, then the points, and EVLRs.
+pub struct Plan {
+    pub code: u8,
+    pub record: usize,
+    pub vlrs: usize,
+    pub count: usize,
+    pub evlrs: usize,
+    pub evlrs_at: usize,
+}
+
+impl Plan {
+    pub fn points_at(&self) -> usize {
+        HEADER + self.vlrs * VLR
+    }
+
+    /// Puts the header into a file of zeros.
+    pub fn put(&self, file: &mut [u8]) {
+        let mut put = |at: usize, number: &[u8]| file[at..][..number.len()].copy_from_slice(number);
+        put(0, b"LASF");
+        put(24, &[1, 4]);
+        put(94, &(HEADER as u16).to_le_bytes());
+        put(96, &(self.points_at() as u32).to_le_bytes());
+        put(100, &(self.vlrs as u32).to_le_bytes());
+        put(104, &[self.code]);
+        put(105, &(self.record as u16).to_le_bytes());
+        put(235, &(self.evlrs_at as u64).to_le_bytes());
+        put(243, &(self.evlrs as u32).to_le_bytes());
+        put(247, &(self.count as u64).to_le_bytes());
     }
 }
 
@@ -112,17 +143,15 @@ impl Work {
 fn file(code: u8, word: u32, record: usize, count: usize) -> Vec<u8> {
     let evlrs_at = POINTS_AT + count * record;
     let mut file = vec![0; evlrs_at + EVLRS * EVLR];
-    let mut put = |at: usize, number: &[u8]| file[at..][..number.len()].copy_from_slice(number);
-    put(0, b"LASF");
-    put(24, &[1, 4]);
-    put(94, &(HEADER as u16).to_le_bytes());
-    put(96, &(POINTS_AT as u32).to_le_bytes());
-    put(100, &(VLRS as u32).to_le_bytes());
-    put(104, &[code]);
-    put(105, &(record as u16).to_le_bytes());
-    put(235, &(evlrs_at as u64).to_le_bytes());
-    put(243, &(EVLRS as u32).to_le_bytes());
-    put(247, &(count as u64).to_le_bytes());
+    let plan = Plan {
+        code,
+        record,
+        vlrs: VLRS,
+        count,
+        evlrs: EVLRS,
+        evlrs_at,
+    };
+    plan.put(&mut file);
     let (first, rest) = file[POINTS_AT..evlrs_at].split_at_mut(count.min(KEPT) * record);
     for (i, bytes) in (0..).zip(first.chunks_exact_mut(record)) {
         fill(word, i, bytes);
@@ -308,7 +337,7 @@ impl Work {
     pub fn port_read(&mut self) {
         let (mut row, mut numbers) = ([0; 3], [0; 24]);
         for record in self.records().chunks_exact(self.record) {
-            capi::point_read(record, self.word, &mut row, &mut numbers);
+            capi::las_point_read(record, self.word, &mut row, &mut numbers);
             assert_eq!(row[0], 0);
             black_box(&mut numbers);
         }
@@ -318,17 +347,17 @@ impl Work {
         let mut row = [0; 3];
         let places = self.port_made.chunks_exact_mut(self.record);
         for (numbers, place) in self.numbers.iter().zip(places) {
-            capi::point_write(numbers, &[], self.word, place, &mut row);
+            capi::las_point_write(numbers, &[], self.word, place, &mut row);
             assert_eq!(row[0], 0);
         }
         black_box(&mut self.port_made);
     }
 
-    fn port_points(&self, mut see: impl FnMut(&mut Numbers)) {
+    fn port_points(&self, mut see: impl FnMut(&mut PointNumbers)) {
         let (mut place, mut row, mut numbers) = ([0; 7], [0; 3], [0; 24]);
-        capi::file_walker(&self.file, MANY, &mut place);
+        capi::las_file_walker(&self.file, MANY, &mut place);
         loop {
-            capi::file_next(&self.file, &mut place, &mut row, &mut numbers);
+            capi::las_file_next(&self.file, &mut place, &mut row, &mut numbers);
             if row[0] != 0 {
                 break;
             }
@@ -351,7 +380,7 @@ impl Work {
 
     pub fn port_rewrite(&mut self) {
         let mut row = [0; 3];
-        capi::file_rewrite(&self.file, MANY, &mut self.port_made, &mut row);
+        capi::las_file_rewrite(&self.file, MANY, &mut self.port_made, &mut row);
         assert_eq!(row[0], 0);
         black_box(&mut self.port_made);
     }
@@ -366,17 +395,17 @@ impl Work {
     }
 
     pub fn port_to_old(&mut self) {
-        self.port_convert(capi::convert_to_old);
+        self.port_convert(capi::las_convert_to_old);
     }
 
     pub fn port_to_new(&mut self) {
-        self.port_convert(capi::convert_to_new);
+        self.port_convert(capi::las_convert_to_new);
     }
 
     pub fn port_check(&mut self) {
         for _ in 0..CHECKS {
             let mut row = [u64::MAX; 4];
-            capi::file_check(black_box(&self.file), MANY, &mut row);
+            capi::las_file_check(black_box(&self.file), MANY, &mut row);
             assert_eq!(row, [0, 0, 0, (VLRS + EVLRS) as u64]);
         }
     }

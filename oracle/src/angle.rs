@@ -3,8 +3,8 @@
 use crate::{
     answer::Answer,
     call::{Call, noise},
-    capi,
-    report::Tally,
+    capi, convert_model,
+    report::{Report, Tally},
 };
 use las::raw::point::ScanAngle;
 
@@ -95,6 +95,20 @@ static DEFAULT: Call = Call {
     port: |_, _| Answer::result(capi::las_angle_default()),
 };
 
+/// Compares the nearest whole degree of a scaled number: the Rust's rank, and by rule where the Rust
+/// holds it.
+fn compare_nearest_rank(report: &mut Report, n: i16) {
+    let rule = convert_model::rank(n);
+    let held = i8::try_from(rule).is_err();
+    let rust = match held {
+        true => rule,
+        false => i8::from(ScanAngle::Scaled(n)).into(),
+    };
+    let port = capi::las_angle_nearest_rank(n);
+    report.compare(rust, port.into(), || n.to_string());
+    report.by_rule(held);
+}
+
 /// The calls that take one angle word.
 pub static READINGS: [&Call; 3] = [&TO_RANK, &TO_SCALED, &TO_DEGREES];
 
@@ -117,6 +131,11 @@ fn nth_rank(i: u64) -> u32 {
 pub fn compare(tally: &mut Tally) {
     tally.add(RANK.over(1 << 8, |i| (i as u32, 0)));
     tally.add(SCALED_ANGLE.over(1 << 16, |i| (i as u32, 0)));
+    tally.add(Report::over(
+        "las_angle_nearest_rank",
+        1 << 16,
+        |report, stretch| stretch.for_each(|i| compare_nearest_rank(report, i as i16)),
+    ));
     for call in READINGS {
         let scaled = call.over(1 << 16, |i| (nth_scaled(i), 0));
         tally.add(scaled.and(call.over(RANKS, |i| (nth_rank(i), 0))));

@@ -9,10 +9,9 @@ use crate::{
     convert_wrong::{ERRORS, StandIn},
     format,
     records::{self, Lcg},
-    report::{Report, Tally, stretches},
+    report::{self, Report, Tally, stretches},
 };
 use las::point::Format;
-use std::array;
 
 /// The calls on runs. The port has them, and so have the stand-ins that test the comparison itself. A
 /// run is a format byte, a count of extra bytes and a count of records.
@@ -25,11 +24,11 @@ struct Port;
 
 impl Library for Port {
     fn to_old(&self, src: &[u8], run: (u8, u16, u64), dst: &mut [u8], row: &mut Row) {
-        capi::convert_to_old(src, run, dst, row)
+        capi::las_convert_to_old(src, run, dst, row)
     }
 
     fn to_new(&self, src: &[u8], run: (u8, u16, u64), dst: &mut [u8], row: &mut Row) {
-        capi::convert_to_new(src, run, dst, row)
+        capi::las_convert_to_new(src, run, dst, row)
     }
 }
 
@@ -193,43 +192,14 @@ const NUMBERS: [usize; 12] = [0, 1, 8, 15, 16, 17, 18, 19, 20, 21, 22, 26];
 /// How often each must have been answered, or else the run has not tested it.
 const OFTEN: u64 = 500;
 
-/// What comparing both calls came to.
-struct Outcome {
-    reports: [Report; 3],
-    /// How many records were converted and compared.
-    records: u64,
-    /// How often the rules answered with each number.
-    answered: [u64; 28],
-}
+/// What comparing both calls came to, and how many records were converted and compared.
+type Outcome = report::Outcome<3, 1>;
 
-impl Outcome {
-    fn new() -> Outcome {
-        let names = [
-            "las_convert_to_old",
-            "las_convert_to_new",
-            "upgraded and back",
-        ];
-        Outcome {
-            reports: names.map(Report::new),
-            records: 0,
-            answered: [0; 28],
-        }
-    }
-
-    fn and(self, other: Outcome) -> Outcome {
-        let [down, up, back] = self.reports;
-        let [downs, ups, backs] = other.reports;
-        Outcome {
-            reports: [down.and(downs), up.and(ups), back.and(backs)],
-            records: self.records + other.records,
-            answered: array::from_fn(|k| self.answered[k] + other.answered[k]),
-        }
-    }
-
-    fn agrees(&self) -> bool {
-        self.reports.iter().all(Report::agrees)
-    }
-}
+const CALLS: [&str; 3] = [
+    "las_convert_to_old",
+    "las_convert_to_new",
+    "upgraded and back",
+];
 
 /// Compares a library with the rules on one run after another. Everything is used again.
 struct Comparison<'a, L> {
@@ -246,7 +216,7 @@ impl<'a, L: Library> Comparison<'a, L> {
     fn new(port: &'a L) -> Comparison<'a, L> {
         Comparison {
             port,
-            outcome: Outcome::new(),
+            outcome: Outcome::new(CALLS),
             lent: Vec::new(),
             rules: Vec::new(),
             by_port: Vec::new(),
@@ -297,13 +267,13 @@ impl<'a, L: Library> Comparison<'a, L> {
                  first differing byte {at:?}, source kept {kept}"
             )
         });
-        self.outcome.answered[rules.number as usize] += 1;
+        self.outcome.counted.answered(rules.number);
         let filled = match rules.number {
             0 => rules.value as usize,
             _ => 0,
         };
         if rules.number == 0 {
-            self.outcome.records += count;
+            self.outcome.counted.counts[0] += count;
         }
         if let Some(written) = written {
             written.clear();
@@ -350,7 +320,7 @@ fn over<L: Library>(
         stretch.for_each(|i| part(&mut comparison, &mut src, i));
         comparison.outcome
     });
-    outcomes.into_iter().fold(Outcome::new(), Outcome::and)
+    outcomes.into_iter().fold(Outcome::new(CALLS), Outcome::and)
 }
 
 /// All 2^24 flags, each alone, for each pair; and those that fit in long runs, and with each of the
@@ -486,7 +456,7 @@ fn offenders<L: Library>(library: &L, _: Lot) -> Outcome {
         shape.fill(i, record);
         fit(record, shape.format, &mut random);
         for number in 15..=21 {
-            if i / 5 >> (number - 15) & 1 == 1 {
+            if (i / 5) >> (number - 15) & 1 == 1 {
                 offend(record, shape.format, number, &mut random);
             }
         }
@@ -766,19 +736,17 @@ pub fn compare_stand_ins() -> Report {
 /// Compares a library and prints what came of it: both calls, and how often each number was answered.
 pub fn compare_library(tally: &mut Tally, library: &impl Library) {
     tally.add(compare_described(library));
-    let outcome = parts(library, FULL).fold(Outcome::new(), Outcome::and);
+    let outcome = parts(library, FULL).fold(Outcome::new(CALLS), Outcome::and);
     let [down, up, back] = outcome.reports;
     tally.add(down);
     tally.add(up);
     tally.aside(back);
-    println!("    {:>11} records converted", outcome.records);
-    let mut often = Report::new("conversion answers, each many times");
-    for number in NUMBERS {
-        let times = outcome.answered[number];
-        println!("    {times:>11} times {number}");
-        often.check(times >= OFTEN, || format!("{number} only {times} times"));
-    }
-    tally.add(often);
+    tally.add(outcome.counted.tell(
+        "conversion answers, each many times",
+        ["records converted"],
+        &NUMBERS,
+        OFTEN,
+    ));
 }
 
 pub fn compare(tally: &mut Tally) {

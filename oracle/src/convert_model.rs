@@ -105,7 +105,7 @@ fn channel(record: &[u8]) -> u8 {
 }
 
 /// "Scaled n to rank: the nearest whole number to 6n/1000, halves away from zero", before holding.
-fn rank(scaled: i16) -> i32 {
+pub fn rank(scaled: i16) -> i32 {
     let n = i32::from(scaled);
     n.signum() * ((6 * n.abs() + 500) / 1000)
 }
@@ -205,11 +205,14 @@ fn wanted(number: u64, bytes: u128) -> Answer {
     Answer::refusal(number, u64::try_from(bytes).unwrap_or(0))
 }
 
+/// What keeps a record of a format from being converted, and its value.
+type Offence = fn(&[u8], u8) -> Option<(u64, u64)>;
+
 /// What the two directions do not share: the pairs, what keeps a record from being converted, and what
 /// is written of one.
 struct Direction {
     pairs: &'static [(u8, u8)],
-    offence: fn(&[u8], u8) -> Option<(u64, u64)>,
+    offence: Offence,
     record: fn(&[u8], u8, &mut [u8]),
 }
 

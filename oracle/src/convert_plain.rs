@@ -57,13 +57,13 @@ impl Scratch {
         self.port.clear();
         self.port.resize(shape.lengths()[1], BEFORE_BYTE);
         let mut numbers = [0; 24];
-        let read = capi::row(|row| capi::point_read(record, word, row, &mut numbers));
-        let [at, len] = capi::point_extra(record, word);
+        let read = capi::row(|row| capi::las_point_read(record, word, row, &mut numbers));
+        let [at, len] = capi::span(|part| capi::las_point_extra(record, word, part));
         let extra = at.checked_add(len);
         let extra = extra.and_then(|end| record.get(at as usize..end as usize));
         match (read.number, extra) {
             (0, Some(extra)) => capi::row(|row| {
-                capi::point_write(&numbers, extra, target(shape), &mut self.port, row)
+                capi::las_point_write(&numbers, extra, target(shape), &mut self.port, row)
             }),
             _ => read,
         }

@@ -3,24 +3,26 @@
 
 use crate::{
     answer::Answer,
-    capi::{self, Numbers, Place, Row},
+    capi::{self, Cursor, Place, PointNumbers, Row, Span},
     file_model::{self, Found, Part},
     file_wrong::{ERRORS, StandIn},
     files::{MANY, Patch, Whole},
     format::{self, LONGEST},
     point,
     records::{self, Lcg, most_extra, record_len},
-    report::{Report, Tally, stretches},
+    report::{self, Report, Tally, stretches},
 };
 use las::raw::Point;
-use std::array;
 
 /// The calls on files. The port has them, and so have the stand-ins that test the comparison itself.
 pub trait Library: Sync {
     fn check(&self, file: &[u8], allowance: u64, row: &mut [u64; 4]);
     fn parts(&self, file: &[u8], allowance: u64, table: &mut [u64], row: &mut Row);
+    fn cursor(&self, file: &[u8], allowance: u64, cursor: &mut Cursor, row: &mut Row);
+    fn tell(&self, file: &[u8], cursor: &mut Cursor, part: &mut Part) -> u8;
     fn walker(&self, file: &[u8], allowance: u64, place: &mut Place);
-    fn next(&self, file: &[u8], place: &mut Place, row: &mut Row, numbers: &mut Numbers);
+    fn record(&self, file: &[u8], place: &Place, part: &mut Span);
+    fn next(&self, file: &[u8], place: &mut Place, row: &mut Row, numbers: &mut PointNumbers);
     fn rewrite(&self, file: &[u8], allowance: u64, dst: &mut [u8], row: &mut Row);
 }
 
@@ -28,23 +30,35 @@ struct Port;
 
 impl Library for Port {
     fn check(&self, file: &[u8], allowance: u64, row: &mut [u64; 4]) {
-        capi::file_check(file, allowance, row)
+        capi::las_file_check(file, allowance, row)
     }
 
     fn parts(&self, file: &[u8], allowance: u64, table: &mut [u64], row: &mut Row) {
-        capi::file_parts(file, allowance, table, row)
+        capi::las_file_parts(file, allowance, table, row)
+    }
+
+    fn cursor(&self, file: &[u8], allowance: u64, cursor: &mut Cursor, row: &mut Row) {
+        capi::las_cursor_start(file, allowance, cursor, row)
+    }
+
+    fn tell(&self, file: &[u8], cursor: &mut Cursor, part: &mut Part) -> u8 {
+        capi::las_cursor_next(file, cursor, part)
+    }
+
+    fn record(&self, file: &[u8], place: &Place, part: &mut Span) {
+        capi::las_file_record(file, place, part)
     }
 
     fn walker(&self, file: &[u8], allowance: u64, place: &mut Place) {
-        capi::file_walker(file, allowance, place)
+        capi::las_file_walker(file, allowance, place)
     }
 
-    fn next(&self, file: &[u8], place: &mut Place, row: &mut Row, numbers: &mut Numbers) {
-        capi::file_next(file, place, row, numbers)
+    fn next(&self, file: &[u8], place: &mut Place, row: &mut Row, numbers: &mut PointNumbers) {
+        capi::las_file_next(file, place, row, numbers)
     }
 
     fn rewrite(&self, file: &[u8], allowance: u64, dst: &mut [u8], row: &mut Row) {
-        capi::file_rewrite(file, allowance, dst, row)
+        capi::las_file_rewrite(file, allowance, dst, row)
     }
 }
 
@@ -92,62 +106,38 @@ const NUMBERS: [usize; 17] = [0, 1, 2, 3, 4, 5, 6, 7, 8, 9, 10, 11, 12, 13, 14, 
 /// How often each must have been answered, or else the run has not tested it.
 const OFTEN: u64 = 100_000;
 
-/// The ways in which files are made.
-const WAYS: [&str; 5] = [
-    "made whole",
-    "with a number at a boundary",
-    "with several, or cut besides",
-    "cut at every byte",
-    "with bytes changed at random",
+/// What is counted: the files by the way in which they are made, all of them, and the points that the
+/// walkers gave.
+const COUNTED: [&str; 7] = [
+    "files made whole",
+    "files with a number at a boundary",
+    "files with several, or cut besides",
+    "files cut at every byte",
+    "files with bytes changed at random",
+    "files in all",
+    "points",
 ];
+const FILES: usize = 5;
+const POINTS: usize = 6;
 
 /// What comparing all calls on files came to.
-struct Outcome {
-    reports: [Report; 4],
-    /// How many points the walkers gave.
-    points: u64,
-    /// How often the rules answered with each number.
-    answered: [u64; 28],
-    /// How many files were made in each way.
-    files: [u64; WAYS.len()],
-}
+type Outcome = report::Outcome<6, 7>;
 
-impl Outcome {
-    fn new() -> Outcome {
-        let names = [
-            "las_file_check",
-            "las_file_parts",
-            "las_file_walker, las_file_next",
-            "las_file_rewrite",
-        ];
-        Outcome {
-            reports: names.map(Report::new),
-            points: 0,
-            answered: [0; 28],
-            files: [0; WAYS.len()],
-        }
-    }
-
-    fn and(self, other: Outcome) -> Outcome {
-        let [check, parts, walk, rewrite] = self.reports;
-        let [checks, tables, walks, rewrites] = other.reports;
-        Outcome {
-            reports: [
-                check.and(checks),
-                parts.and(tables),
-                walk.and(walks),
-                rewrite.and(rewrites),
-            ],
-            points: self.points + other.points,
-            answered: array::from_fn(|k| self.answered[k] + other.answered[k]),
-            files: array::from_fn(|k| self.files[k] + other.files[k]),
-        }
-    }
-
-    fn agrees(&self) -> bool {
-        self.reports.iter().all(Report::agrees)
-    }
-}
+/// The calls, and the places of their reports.
+const CALLS: [&str; 6] = [
+    "las_file_check",
+    "las_file_parts",
+    "las_cursor_start, las_cursor_next",
+    "las_file_walker, las_file_next",
+    "las_file_record",
+    "las_file_rewrite",
+];
+const CHECK: usize = 0;
+const PARTS: usize = 1;
+const CURSOR: usize = 2;
+const WALK: usize = 3;
+const RECORD: usize = 4;
+const REWRITE: usize = 5;
 
 /// Compares a library with the rules on one file after another. Everything is used again.
 struct Comparison<'a, L> {
@@ -196,7 +186,7 @@ impl<'a, L: Library> Comparison<'a, L> {
     fn new(port: &'a L) -> Comparison<'a, L> {
         Comparison {
             port,
-            outcome: Outcome::new(),
+            outcome: Outcome::new(CALLS),
             index: 0,
             whole: Whole::default(),
             file: Vec::new(),
@@ -226,7 +216,7 @@ impl<'a, L: Library> Comparison<'a, L> {
         self.dst.resize(end + SPARE, BEFORE_BYTE);
         self.dst_before.resize(end + SPARE, BEFORE_BYTE);
 
-        self.outcome.files[0] += 1;
+        self.made(0);
         for allowance in self.whole.allowances() {
             self.compare(&[], end, allowance);
         }
@@ -247,7 +237,7 @@ impl<'a, L: Library> Comparison<'a, L> {
             self.damaged(2, &several[..count], cut);
         }
         // Every second file of each version and format, for there would be little else.
-        if !lot.long && index / 25 % 2 == 0 {
+        if !lot.long && (index / 25).is_multiple_of(2) {
             for cut in 0..end {
                 self.damaged(3, &[], cut);
             }
@@ -266,9 +256,15 @@ impl<'a, L: Library> Comparison<'a, L> {
         );
     }
 
+    /// Counts a file made in one of the ways.
+    fn made(&mut self, way: usize) {
+        self.outcome.counted.counts[way] += 1;
+        self.outcome.counted.counts[FILES] += 1;
+    }
+
     /// Does the damage, compares and undoes it.
     fn damaged(&mut self, way: usize, damage: &[Patch], cut: usize) {
-        self.outcome.files[way] += 1;
+        self.made(way);
         let allowances = self.whole.allowances();
         let allowance = match self.random.below(2) {
             0 => allowances[self.random.below(7) as usize],
@@ -292,9 +288,10 @@ impl<'a, L: Library> Comparison<'a, L> {
             allowance,
         };
         let answer = self.found.check(lent.file, allowance);
-        self.outcome.answered[answer.number as usize] += 1;
+        self.outcome.counted.answered(answer.number);
         self.compare_check(lent, answer);
         self.compare_parts(lent, answer);
+        self.compare_cursor(lent, answer);
         self.compare_walk(lent, answer);
         self.compare_rewrite(lent, answer);
         self.file = file;
@@ -311,7 +308,7 @@ impl<'a, L: Library> Comparison<'a, L> {
         let rules = self.found.row(answer);
         let mut port = [u64::MAX; 4];
         self.port.check(lent.file, lent.allowance, &mut port);
-        self.count(0, rules == port, lent, || {
+        self.count(CHECK, rules == port, lent, || {
             format!("document 01 {rules:?}, port {port:?}")
         });
     }
@@ -336,7 +333,9 @@ impl<'a, L: Library> Comparison<'a, L> {
             0 => Answer::result(self.parts.len() as u64),
             _ => answer,
         };
-        self.outcome.answered[22] += u64::from(rules.number == 22);
+        if rules.number == 22 {
+            self.outcome.counted.answered(22);
+        }
         let filled = if rules.number == 0 { wanted } else { 0 };
         let table = &mut self.table[..size];
         let port = capi::row(|row| self.port.parts(lent.file, lent.allowance, table, row));
@@ -347,13 +346,43 @@ impl<'a, L: Library> Comparison<'a, L> {
             let parts = &self.parts.as_flattened()[..filled];
             first_difference(parts, &self.table_before, &self.table)
         });
-        self.count(1, same, lent, || {
+        self.count(PARTS, same, lent, || {
             format!("table of {size} numbers, {rules}, port {port}, first differing number {at:?}")
         });
         match same {
             true => self.table[..filled].fill(BEFORE),
             false => self.table.fill(BEFORE),
         }
+    }
+
+    /// Compares the cursor: where it starts, which is nowhere in a refused file; the parts that it tells
+    /// one by one, which are those of the table; where it stands after each; and that it stays after the
+    /// last, asked twice.
+    fn compare_cursor(&mut self, lent: Lent, answer: Answer) {
+        let mut should = match answer.number {
+            0 => self.found.cursor(lent.file),
+            _ => [BEFORE; 9],
+        };
+        let mut cursor = [BEFORE; 9];
+        let row = capi::row(|row| {
+            self.port
+                .cursor(lent.file, lent.allowance, &mut cursor, row)
+        });
+        let mut told = 0;
+        let mut same = row == answer && cursor == should;
+        while same && answer.number == 0 && told < self.parts.len() + 2 {
+            let rules = tell(lent.file, &mut should);
+            let mut part = [BEFORE; 3];
+            let has = self.port.tell(lent.file, &mut cursor, &mut part);
+            let listed = self.parts.get(told).copied();
+            same = (has, part) == rules
+                && cursor == should
+                && rules == listed.map_or((0, [BEFORE; 3]), |part| (1, part));
+            told += 1;
+        }
+        self.count(CURSOR, same, lent, || {
+            format!("{answer}, port {row}, part {told}, cursor {should:?}, port {cursor:?}")
+        });
     }
 
     /// Compares a walk to its end and one step past it: each row and all 24 numbers of each point
@@ -365,9 +394,12 @@ impl<'a, L: Library> Comparison<'a, L> {
         };
         let mut place = [BEFORE; 7];
         self.port.walker(lent.file, lent.allowance, &mut place);
-        self.outcome.answered[27] += u64::from(answer.number == 0);
+        if answer.number == 0 {
+            self.outcome.counted.answered(27);
+        }
         let mut past = 0;
         let mut difference = None;
+        let mut record = None;
         for k in 0.. {
             let rules = match answer.number {
                 0 if k < self.found.points() && self.found.point_end(k) <= shown as u64 => {
@@ -376,6 +408,15 @@ impl<'a, L: Library> Comparison<'a, L> {
                 0 => (Answer::refusal(27, self.found.points()), [BEFORE; 24]),
                 _ => (answer, [BEFORE; 24]),
             };
+            // Where the walker is, and the record's bytes if there is one.
+            let span = match rules.0.number {
+                0 => self.found.point_span(k),
+                _ => [place[1], 0],
+            };
+            let told = capi::span(|part| self.port.record(&lent.file[..shown], &place, part));
+            if told != span && record.is_none() {
+                record = Some((k, span, told));
+            }
             let mut numbers = [BEFORE; 24];
             let row = capi::row(|row| {
                 self.port
@@ -386,14 +427,17 @@ impl<'a, L: Library> Comparison<'a, L> {
                 break;
             }
             match row.number {
-                0 => self.outcome.points += 1,
+                0 => self.outcome.counted.counts[POINTS] += 1,
                 _ => past += 1,
             }
             if past == 2 {
                 break;
             }
         }
-        self.count(2, difference.is_none(), lent, || {
+        self.count(RECORD, record.is_none(), lent, || {
+            format!("shown {shown} bytes, step, span, port: {record:?}")
+        });
+        self.count(WALK, difference.is_none(), lent, || {
             let Some((k, (rules, expected), (row, numbers))) = difference else {
                 return String::new();
             };
@@ -418,7 +462,9 @@ impl<'a, L: Library> Comparison<'a, L> {
             0 => Answer::result(wanted as u64),
             _ => answer,
         };
-        self.outcome.answered[22] += u64::from(rules.number == 22);
+        if rules.number == 22 {
+            self.outcome.counted.answered(22);
+        }
         self.written.clear();
         if rules.number == 0 {
             file_model::rewritten(lent.file, &mut self.written);
@@ -430,13 +476,24 @@ impl<'a, L: Library> Comparison<'a, L> {
             && self.dst[..filled] == self.written
             && self.dst[filled..] == self.dst_before[filled..];
         let at = (!same).then(|| first_difference(&self.written, &self.dst_before, &self.dst));
-        self.count(3, same, lent, || {
+        self.count(REWRITE, same, lent, || {
             format!("room {size}, {rules}, port {port}, first differing byte {at:?}")
         });
         match same {
             true => self.dst[..filled].fill(BEFORE_BYTE),
             false => self.dst.fill(BEFORE_BYTE),
         }
+    }
+}
+
+/// What a cursor tells by the rules, and moves it on; where it tells nothing it stays.
+fn tell(file: &[u8], cursor: &mut Cursor) -> (u8, Part) {
+    match file_model::step(file, *cursor) {
+        Some((part, next)) => {
+            *cursor = next;
+            (1, part)
+        }
+        None => (0, [BEFORE; 3]),
     }
 }
 
@@ -453,7 +510,7 @@ fn compare_with(library: &impl Library, lot: Lot) -> Outcome {
         stretch.for_each(|index| comparison.all_of(lot, index));
         comparison.outcome
     });
-    outcomes.into_iter().fold(Outcome::new(), Outcome::and)
+    outcomes.into_iter().fold(Outcome::new(CALLS), Outcome::and)
 }
 
 /// The comparison itself is tested: a stand-in that follows the rules agrees with them, and one with
@@ -462,7 +519,9 @@ pub fn compare_stand_ins() -> Report {
     let mut report = Report::new("stand-ins with an error, told apart");
     let agrees = |error| {
         let library = &StandIn { error };
-        compare_with(library, FEW).agrees() && compare_places(library).agrees()
+        compare_with(library, FEW).agrees()
+            && compare_places(library).agrees()
+            && compare_cursors(library, 100).agrees()
     };
     report.check(agrees(None), || "the one without an error differs".into());
     for &error in ERRORS {
@@ -516,7 +575,7 @@ fn compare_described(library: &impl Library) -> Report {
         library.check(&file, MANY, &mut port);
         library.parts(&file, MANY, &mut table, &mut row);
         let same = [rules, port] == [stated; 2]
-            && [&listed.as_flattened(), &table[..]] == [parts.as_flattened(); 2];
+            && [listed.as_flattened(), &table[..]] == [parts.as_flattened(); 2];
         report.check(same, || {
             let size = file.len();
             format!("{size} bytes: {stated:?} {parts:?}, rules {rules:?} {listed:?}, port {port:?} {table:?}")
@@ -528,7 +587,7 @@ fn compare_described(library: &impl Library) -> Report {
 /// What a step from a place comes to, whatever the place holds: the row, the point and the place after.
 /// "A walker with an overlong format or a next record outside its file answers 27 too, with the count it
 /// holds." A refused one repeats its refusal.
-fn step(file: &[u8], place: Place) -> (Row, Numbers, Place) {
+fn step(file: &[u8], place: Place) -> (Row, PointNumbers, Place) {
     let [word, at, left, count, number, value, record] = place;
     if number != 0 {
         return ([number, value, record], [BEFORE; 24], place);
@@ -559,11 +618,17 @@ fn compare_places(library: &impl Library) -> Report {
     Lcg::new(0).fill(&mut file);
     let mut compare = |place: Place| {
         let rules = step(&file, place);
+        let length = match rules.0 {
+            [0, ..] => rules.2[1] - place[1],
+            _ => 0,
+        };
+        let span = capi::span(|part| library.record(&file, &place, part));
         let (mut row, mut numbers, mut after) = ([u64::MAX; 3], [BEFORE; 24], place);
         library.next(&file, &mut after, &mut row, &mut numbers);
-        report.check(rules == (row, numbers, after), || {
+        let same = rules == (row, numbers, after) && span == [place[1], length];
+        report.check(same, || {
             let (told, _, moved) = rules;
-            format!("{place:?}: {told:?} {moved:?}, port {row:?} {after:?}")
+            format!("{place:?}: {told:?} {moved:?}, port {row:?} {after:?} {span:?}")
         });
     };
 
@@ -598,27 +663,76 @@ fn compare_places(library: &impl Library) -> Report {
     report
 }
 
+/// Compares steps from cursors that no file check gives, but that a caller can make, in so many whole
+/// files: each number is the file's own, or beside it, or one of the file's others, or wider than its
+/// field, or anything.
+fn compare_cursors(library: &impl Library, files: u64) -> Report {
+    const TIMES: u64 = 400;
+    Report::over(
+        "las_cursor_next from made cursors",
+        files,
+        |report, stretch| {
+            let (mut whole, mut found) = (Whole::default(), Found::default());
+            for index in stretch {
+                whole.make(index, false);
+                let file = &whole.bytes[..];
+                found.check(file, u64::MAX);
+                let own = found.cursor(file);
+                let mut parts = Vec::new();
+                found.parts(file, &mut parts);
+                let mut random = Lcg::new(index);
+                for _ in 0..TIMES {
+                    let mut cursor = own;
+                    cursor[0] =
+                        [random.below(5), random.below(7), u64::MAX][random.below(3) as usize];
+                    let part = parts[random.below(parts.len() as u64) as usize];
+                    (cursor[1], cursor[2]) = (part[1], random.below(3));
+                    for number in &mut cursor[1..] {
+                        *number = match random.below(16) {
+                            0 => number.wrapping_add(1),
+                            1 => number.wrapping_sub(1),
+                            2 => file.len() as u64 + random.below(3) - 1,
+                            3 => *number | random.long() << 32,
+                            4 => 1 << 32,
+                            5 => random.long() >> random.below(64),
+                            6 => own[3 + random.below(6) as usize],
+                            _ => *number,
+                        };
+                    }
+                    let (mut should, mut after, mut part) = (cursor, cursor, [BEFORE; 3]);
+                    let rules = tell(file, &mut should);
+                    let has = library.tell(file, &mut after, &mut part);
+                    report.check((has, part) == rules && after == should, || {
+                        format!(
+                            "file {index} ({whole}), {cursor:?}: {rules:?} {should:?}, \
+                         port {has} {part:?} {after:?}"
+                        )
+                    });
+                }
+            }
+        },
+    )
+}
+
 /// Compares a library and prints what came of it: the calls, the files by the way in which they were
 /// made, and how often each number was answered.
 pub fn compare_library(tally: &mut Tally, library: &impl Library) {
     tally.add(compare_described(library));
-    tally.add(compare_places(library));
     let outcome = compare_with(library, SMALL).and(compare_with(library, LONG));
-    for report in outcome.reports {
-        tally.add(report);
-    }
-    for (way, files) in WAYS.iter().zip(outcome.files) {
-        println!("    {files:>11} files {way}");
-    }
-    println!("    {:>11} files in all", outcome.files.iter().sum::<u64>());
-    println!("    {:>11} points", outcome.points);
-    let mut often = Report::new("file answers, each many times");
-    for number in NUMBERS {
-        let times = outcome.answered[number];
-        println!("    {times:>11} times {number}");
-        often.check(times >= OFTEN, || format!("{number} only {times} times"));
-    }
-    tally.add(often);
+    let [check, parts, cursor, walk, record, rewrite] = outcome.reports;
+    tally.add(check);
+    tally.add(parts);
+    tally.add(cursor);
+    tally.add(compare_cursors(library, 20_000));
+    tally.add(walk);
+    tally.add(record);
+    tally.add(compare_places(library));
+    tally.add(rewrite);
+    tally.add(
+        outcome
+            .counted
+            .tell("file answers, each many times", COUNTED, &NUMBERS, OFTEN),
+    );
 }
 
 pub fn compare(tally: &mut Tally) {

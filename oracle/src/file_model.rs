@@ -5,7 +5,11 @@
 //! port but the text, and only the points are the Rust's own. All numbers are taken as 128 bits, in
 //! which no sum or product of theirs wraps.
 
-use crate::{answer::Answer, capi::Numbers, point};
+use crate::{
+    answer::Answer,
+    capi::{Cursor, PointNumbers},
+    point,
+};
 use las::{point::Format, raw::Point};
 
 /// Kind, start and length of a part. The kinds are numbered as the part table does.
@@ -262,9 +266,30 @@ impl Found {
         }
     }
 
+    /// The cursor before the first part of the accepted file that was checked last.
+    pub fn cursor(&self, file: &[u8]) -> Cursor {
+        let end_of_points = self.point_offset + self.points * self.record_length;
+        let (start, evlrs) = match evlr_pair(file) {
+            None | Some((0, _) | (_, 0)) => (end_of_points, 0),
+            Some(pair) => pair,
+        };
+        [
+            0,
+            0,
+            0,
+            self.header_size,
+            number(file, 100, 4),
+            self.point_offset,
+            end_of_points,
+            start,
+            evlrs,
+        ]
+        .map(|n| n as u64)
+    }
+
     /// What the Rust reads of the `k`-th point record, counted from 0, of the accepted file that was
     /// checked last. The record length that goes beyond the format's is extra bytes.
-    pub fn point(&self, file: &[u8], k: u64) -> Numbers {
+    pub fn point(&self, file: &[u8], k: u64) -> PointNumbers {
         let mut format = match Format::new(self.format) {
             Ok(format) => format,
             Err(error) => panic!("the Rust has no format {}: {error}", self.format),
@@ -281,6 +306,61 @@ impl Found {
     /// Where the `k`-th point record ends.
     pub fn point_end(&self, k: u64) -> u64 {
         (self.point_offset + u128::from(k + 1) * self.record_length) as u64
+    }
+
+    /// Where the `k`-th point record starts, and how many bytes it has.
+    pub fn point_span(&self, k: u64) -> [u64; 2] {
+        let length = self.record_length as u64;
+        [self.point_end(k) - length, length]
+    }
+}
+
+/// The part at a cursor, and the cursor after it, whatever the cursor holds: stage, the first byte that
+/// is next, how many records are left of the stage, and the plan, of which the counts are 32 bits.
+/// None "after the last part, and at a VLR or EVLR that is not all there".
+pub fn step(file: &[u8], cursor: Cursor) -> Option<(Part, Cursor)> {
+    let [
+        stage,
+        at,
+        left,
+        header_size,
+        vlrs,
+        offset,
+        end_of_points,
+        start,
+        evlrs,
+    ] = cursor;
+    let [left, vlrs, evlrs] = [left, vlrs, evlrs].map(|count| count & 0xffff_ffff);
+    let end = file.len() as u64;
+    let moved = |stage, at, left| {
+        let plan = [header_size, vlrs, offset, end_of_points, start, evlrs];
+        let mut cursor = [stage, at, left, 0, 0, 0, 0, 0, 0];
+        cursor[3..].copy_from_slice(&plan);
+        cursor
+    };
+    let record = |of: Record, stage, end: u64| {
+        let (at, end) = (u128::from(at), u128::from(end));
+        if at + of.head > end {
+            return None;
+        }
+        let next = at + of.head + number(file, at + 20, of.width);
+        let told = part(of.kind, at, next - at);
+        (next <= end).then(|| (told, moved(stage, next as u64, left - 1)))
+    };
+    let points = (
+        [POINTS, offset, end_of_points.saturating_sub(offset)],
+        moved(3, end_of_points, 0),
+    );
+    match stage {
+        0 => Some(([HEADER, 0, header_size], moved(1, header_size, vlrs))),
+        1 if left > 0 => record(VLRS, 1, offset.min(end)),
+        1 if at < offset => Some(([GAP, at, offset - at], moved(2, offset, 0))),
+        1 | 2 => Some(points),
+        3 if at < start => Some(([GAP, at, start - at], moved(4, start, evlrs))),
+        3 => step(file, moved(4, start, evlrs)),
+        _ if left > 0 => record(EVLRS, 4, end),
+        _ if at < end => Some(([GAP, at, end - at], moved(4, end, 0))),
+        _ => None,
     }
 }
 

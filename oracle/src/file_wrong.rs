@@ -4,7 +4,7 @@
 //! It is written apart from `file_model` and otherwise: in 64 bits, one part after another.
 
 use crate::{
-    capi::{Numbers, Place, Row},
+    capi::{Cursor, Place, PointNumbers, Row, Span},
     file::Library,
     file_model::{EVLR, GAP, HEADER, POINTS, Part, VLR},
     format::{self, LONGEST},
@@ -43,6 +43,14 @@ errors! {
     TableFilledAsFarAsItGoes,
     RestOfTableCleared,
     RoomBeforeCheck,
+    CursorClearedOnRefusal,
+    CursorStartsAgain,
+    CursorStopsAtEmptyGap,
+    CursorTellsEmptyGaps,
+    CursorVlrsUpToEndOfFile,
+    CursorCountsIn64Bits,
+    CursorPointsInPlace,
+    PartClearedAtEnd,
     WalkerWithoutExtraBytes,
     WalkerStartsAgain,
     WalkerAnswersHowManyItGave,
@@ -50,6 +58,10 @@ errors! {
     WalkerLengthIn16Bits,
     WalkerSumIn64Bits,
     WalkerRefusalForgotten,
+    RecordWithoutExtraBytes,
+    RecordAfterTheLast,
+    RecordThoughNotShown,
+    RecordThoughRefused,
     NumbersClearedAtEnd,
     HalfEvlrPairKept,
     WholeEvlrPairCleared,
@@ -331,6 +343,99 @@ impl Library for StandIn {
         }
     }
 
+    fn cursor(&self, file: &[u8], allowance: u64, cursor: &mut Cursor, row: &mut Row) {
+        let (sight, answer) = self.judged(file, allowance);
+        if let Err(refusal) = answer {
+            *row = refusal;
+            if self.has(CursorClearedOnRefusal) {
+                *cursor = [0; 9];
+            }
+            return;
+        }
+        *row = [0; 3];
+        let bytes = sight.points.wrapping_mul(sight.length);
+        let point_end = sight.offset.wrapping_add(bytes);
+        let (start, evlrs) = match sight.evlrs {
+            true => (u64_at(file, 235), u32_at(file, 243)),
+            false => (point_end, 0),
+        };
+        *cursor = [
+            0,
+            0,
+            0,
+            u16_at(file, 94),
+            u32_at(file, 100),
+            sight.offset,
+            point_end,
+            start,
+            evlrs,
+        ];
+    }
+
+    /// Goes on past empty gaps.
+    fn tell(&self, file: &[u8], cursor: &mut Cursor, part: &mut Part) -> u8 {
+        let end = file.len() as u64;
+        let mut now = *cursor;
+        now[0] = now[0].min(4);
+        if !self.has(CursorCountsIn64Bits) {
+            for k in [2, 4, 8] {
+                now[k] &= 0xffff_ffff;
+            }
+        }
+        loop {
+            let [stage, at, left, size, vlrs, offset, point_end, start, evlrs] = now;
+            let (told, next) = match stage {
+                0 => ([HEADER, 0, size], [1, size, vlrs]),
+                1 | 4 if left > 0 => {
+                    let (kind, head, until) = match stage {
+                        1 if self.has(CursorVlrsUpToEndOfFile) => (VLR, 54, end),
+                        1 => (VLR, 54, offset.min(end)),
+                        _ => (EVLR, 60, end),
+                    };
+                    let room = until.saturating_sub(at);
+                    let length = match kind {
+                        _ if room < head => u64::MAX,
+                        VLR => u16_at(file, at + 20),
+                        _ => u64_at(file, at + 20),
+                    };
+                    if length > room.saturating_sub(head) {
+                        return 0;
+                    }
+                    let length = head + length;
+                    ([kind, at, length], [stage, at + length, left - 1])
+                }
+                1 => ([GAP, at, offset.saturating_sub(at)], [2, offset, 0]),
+                2 if self.has(CursorPointsInPlace) => (
+                    [POINTS, at, point_end.saturating_sub(at)],
+                    [3, point_end, 0],
+                ),
+                2 => (
+                    [POINTS, offset, point_end.saturating_sub(offset)],
+                    [3, point_end, 0],
+                ),
+                3 => ([GAP, at, start.saturating_sub(at)], [4, start, evlrs]),
+                _ if at < end => ([GAP, at, end - at], [4, end, 0]),
+                _ => {
+                    if self.has(PartClearedAtEnd) {
+                        *part = [0; 3];
+                    }
+                    if self.has(CursorStartsAgain) {
+                        cursor[..3].fill(0);
+                    }
+                    return 0;
+                }
+            };
+            now[..3].copy_from_slice(&next);
+            match told {
+                [GAP, _, 0] if self.has(CursorStopsAtEmptyGap) => return 0,
+                [GAP, _, 0] if !self.has(CursorTellsEmptyGaps) => continue,
+                _ => {}
+            }
+            (*cursor, *part) = (now, told);
+            return 1;
+        }
+    }
+
     fn walker(&self, file: &[u8], allowance: u64, place: &mut Place) {
         let (sight, answer) = self.judged(file, allowance);
         *place = match answer {
@@ -344,7 +449,7 @@ impl Library for StandIn {
         };
     }
 
-    fn next(&self, file: &[u8], place: &mut Place, row: &mut Row, numbers: &mut Numbers) {
+    fn next(&self, file: &[u8], place: &mut Place, row: &mut Row, numbers: &mut PointNumbers) {
         let [word, at, left, points, number, value, record] = *place;
         if number != 0 && !self.has(WalkerRefusalForgotten) {
             *row = [number, value, record];
@@ -394,6 +499,24 @@ impl Library for StandIn {
         *row = [0; 3];
         place[1] = at.wrapping_add(step);
         place[2] -= 1;
+    }
+
+    fn record(&self, file: &[u8], place: &Place, part: &mut Span) {
+        let [word, at, left, _, number, _, _] = *place;
+        let format = format::format(word as u32);
+        let length = record_len(format::word(format)) as u64;
+        let shown = at
+            .checked_add(length)
+            .is_some_and(|end| end <= file.len() as u64);
+        let there = (number == 0 || self.has(RecordThoughRefused))
+            && (left > 0 || self.has(RecordAfterTheLast))
+            && (shown || self.has(RecordThoughNotShown))
+            && length <= LONGEST as u64;
+        let length = match self.has(RecordWithoutExtraBytes) {
+            true => length - u64::from(format.extra_bytes),
+            false => length,
+        };
+        *part = [at, if there { length } else { 0 }];
     }
 
     fn rewrite(&self, file: &[u8], allowance: u64, dst: &mut [u8], row: &mut Row) {

@@ -4,7 +4,7 @@ use crate::{
     answer::{Answer, unnumbered},
     call::{Call, noise},
     capi,
-    report::Tally,
+    report::{Report, Tally},
 };
 use las::{Error, point::Format, raw::window};
 
@@ -107,6 +107,24 @@ static DEFAULT: Call = Call {
     port: |_, _| Answer::result(capi::las_format_default()),
 };
 
+/// Compares a layout: start and length of each field, as the Rust's own `fields` adds them up. Of a
+/// field that the format lacks the Rust has neither: it has no bytes, and starts where the next does.
+fn compare_layout(report: &mut Report, word: u32) {
+    let spans = window::field_spans(&format(word));
+    let mut next = 0;
+    let mut rust = spans.map(|_| [0; 2]);
+    for (span, rust) in spans.iter().zip(&mut rust).rev() {
+        *rust = span.unwrap_or([next, 0]).map(|n| n as u64);
+        next = rust[0] as usize;
+    }
+    let mut port = [u64::MAX; 26];
+    capi::las_layout(word, &mut port);
+    report.check(rust.as_flattened() == port, || {
+        format!("{word:#010x}: Rust {rust:?}, port {port:?}")
+    });
+    report.by_rule(spans.contains(&None));
+}
+
 /// Every attribute set with every count of extra bytes, three times: with the ignored bits clear,
 /// set, and mixed.
 const WORDS: u64 = 3 << 22;
@@ -127,5 +145,8 @@ pub fn compare(tally: &mut Tally) {
     for call in [&EXTEND, &LEN, &TO_U8] {
         tally.add(call.over(WORDS, nth_word));
     }
+    tally.add(Report::over("las_layout", WORDS, |report, stretch| {
+        stretch.for_each(|i| compare_layout(report, nth_word(i).0));
+    }));
     tally.add(DEFAULT.once());
 }

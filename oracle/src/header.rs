@@ -2,11 +2,13 @@
 
 use crate::{
     answer::Answer,
+    call::Call,
     capi::{self, HeaderNumbers},
+    format,
     records::Lcg,
-    report::{Report, Tally},
+    report::{self, Report, Tally, stretches},
 };
-use las::raw::Header;
+use las::{Version, point::Format, raw::Header};
 
 /// How many headers are read and written.
 const HEADERS: u64 = 2_000_000;
@@ -74,6 +76,15 @@ fn bytes(i: u64) -> Vec<u8> {
             bytes[at] = random.byte();
         }
         _ => {}
+    }
+    // a format that there is, and a record length around its own
+    if bytes.len() > 106 && random.below(2) == 0 {
+        bytes[104] = random.below(11) as u8;
+        if random.below(2) == 0 {
+            let length = Format::new(bytes[104]).map_or(0, |format| format.len());
+            let length = length - 2 + random.below(5) as u16;
+            bytes[105..107].copy_from_slice(&length.to_le_bytes());
+        }
     }
     bytes
 }
@@ -182,33 +193,127 @@ pub(crate) fn end_of_points(h: &Header) -> Answer {
     }
 }
 
-/// Compares a read: every field, the padding, the counts; on refusal, that nothing was written.
-fn compare_read(report: &mut Report, i: u64) {
+/// The word of the format of the points, and whether the Rust gives no such answer. Where it has one it
+/// is that of `Builder::new`, which can't be asked itself, since it leans on a file that is not
+/// published: the Rust's format of the code, and what the record length has beyond its `len`. For a code
+/// that there isn't it is format 0 without extra bytes, and there are none where the length is less.
+fn point_format(code: u8, length: u16) -> (u32, bool) {
+    let Ok(format) = Format::new(code) else {
+        return (format::word(Format::default()), true);
+    };
+    let extra_bytes = length.saturating_sub(format.len());
+    let word = format::word(Format {
+        extra_bytes,
+        ..format
+    });
+    (word, length < format.len())
+}
+
+/// The calls that look at a header.
+type Outcome = report::Outcome<5, 0>;
+
+const CALLS: [&str; 5] = [
+    "las_header_read",
+    "las_header_padding",
+    "las_header_points",
+    "las_header_end_of_points",
+    "las_header_point_format",
+];
+
+/// Compares a read: every field, the padding, the counts, the format; on refusal, that nothing was
+/// written, and that the others refuse in the same way.
+fn compare_read(outcome: &mut Outcome, i: u64) {
     let bytes = bytes(i);
     let wanted = judged(&bytes);
     let mut found = BEFORE;
-    let port = capi::row(|row| capi::header_read(&bytes, row, &mut found));
-    let [start, length] = capi::header_padding(&bytes);
-    let count = capi::row(|row| capi::header_points(&bytes, row));
-    let end = capi::row(|row| capi::header_end_of_points(&bytes, row));
-    let agrees = port == wanted
-        && if wanted.number == 0 {
-            let h = Header::read_from(&bytes[..]).expect("a header that rule 1 accepts");
-            let padding = start as usize..(start + length) as usize;
-            found == numbers(&h)
-                && bytes.get(padding) == Some(&h.padding[..])
-                && count == Answer::result(points(&h))
-                && end == end_of_points(&h)
-        } else {
-            // below 1.0 and from 1.5 on the Rust reads on; the port refuses
-            let refused = wanted.by_rule() || Header::read_from(&bytes[..]).is_err();
-            refused && found == BEFORE && length == 0 && count == wanted && end == wanted
-        };
-    report.check(agrees, || {
-        format!("header {i}: port {port}, document 01 {wanted}")
-    });
-    // a version that there isn't, or an end of points that the Rust can't tell
-    report.by_rule(wanted.by_rule() || end.by_rule());
+    let port = capi::row(|row| capi::las_header_read(&bytes, row, &mut found));
+    let [start, length] = capi::span(|part| capi::las_header_padding(&bytes, part));
+    let count = capi::row(|row| capi::las_header_points(&bytes, row));
+    let end = capi::row(|row| capi::las_header_end_of_points(&bytes, row));
+    let format = capi::row(|row| capi::las_header_point_format(&bytes, row));
+    let told = |report: &mut Report, agrees, port: Answer, by_rule| {
+        report.check(agrees, || {
+            format!("header {i}: port {port}, document 01 {wanted}")
+        });
+        report.by_rule(by_rule);
+    };
+    let [read, padding, points_report, end_report, format_report] = &mut outcome.reports;
+    if wanted.number != 0 {
+        // below 1.0 and from 1.5 on the Rust reads on; the port refuses
+        let by_rule = wanted.by_rule();
+        let refused = by_rule || Header::read_from(&bytes[..]).is_err();
+        let agrees = refused && port == wanted && found == BEFORE;
+        told(read, agrees, port, by_rule);
+        told(padding, length == 0, wanted, by_rule);
+        told(points_report, count == wanted, count, by_rule);
+        told(end_report, end == wanted, end, by_rule);
+        told(format_report, format == wanted, format, by_rule);
+        return;
+    }
+    let h = Header::read_from(&bytes[..]).expect("a header that rule 1 accepts");
+    told(read, port == wanted && found == numbers(&h), port, false);
+    let bytes_told = bytes.get(start as usize..(start + length) as usize);
+    told(padding, bytes_told == Some(&h.padding[..]), port, false);
+    // the effective count is private in the Rust
+    told(
+        points_report,
+        count == Answer::result(points(&h)),
+        count,
+        false,
+    );
+    // an end of points that the Rust can't tell is by rule
+    told(end_report, end == end_of_points(&h), end, end.by_rule());
+    let (word, by_rule) = point_format(h.point_data_record_format, h.point_data_record_length);
+    told(
+        format_report,
+        format == Answer::result(word),
+        format,
+        by_rule,
+    );
+}
+
+/// Compares the format of the points for every code with every record length, in a header of zeros.
+fn compare_point_formats() -> Report {
+    let bare = Header {
+        version: Version::new(1, 4),
+        header_size: 375,
+        ..Header::default()
+    };
+    let mut whole = Vec::new();
+    bare.write_to(&mut whole).expect("a Vec takes every byte");
+    Report::over("las_header_point_format", 1 << 24, |report, stretch| {
+        let mut bytes = whole.clone();
+        for i in stretch {
+            let [a, b, code, ..] = i.to_le_bytes();
+            bytes[104..107].copy_from_slice(&[code, a, b]);
+            let (word, by_rule) = point_format(code, u16::from_le_bytes([a, b]));
+            let port = capi::row(|row| capi::las_header_point_format(&bytes, row));
+            report.compare(Answer::result(word), port, || {
+                format!("{:02x?}", &bytes[104..107])
+            });
+            report.by_rule(by_rule);
+        }
+    })
+}
+
+// The Rust has a size for every version; the port refuses all but the five.
+static SIZE: Call = Call {
+    name: "las_header_size",
+    op: None,
+    rust: |major, minor| match (major, minor) {
+        (1, 0..=4) => Answer::result(Version::new(major as u8, minor as u8).header_size()),
+        _ => Answer::refusal(3, major * 256 + minor),
+    },
+    port: |major, minor| capi::row(|row| capi::las_header_size(major as u8, minor as u8, row)),
+};
+
+fn compare_default() -> Report {
+    let mut report = Report::new("las_header_default");
+    let rust = numbers(&Header::default());
+    let mut port = BEFORE;
+    capi::las_header_default(&mut port);
+    report.check(rust == port, || format!("Rust {rust:?}, port {port:?}"));
+    report
 }
 
 /// Compares a write of what was read into enough room or too little.
@@ -233,7 +338,7 @@ fn compare_write(report: &mut Report, i: u64) {
     };
     let mut dst = vec![FILL; size - short + 3 * usize::from(short == 0)];
     let untouched = dst.clone();
-    let port = capi::row(|row| capi::header_write(&numbers(&h), &h.padding, &mut dst, row));
+    let port = capi::row(|row| capi::las_header_write(&numbers(&h), &h.padding, &mut dst, row));
     let agrees = if foreign {
         port == Answer::refusal(3, 256 + u64::from(h.version.minor)) && dst == untouched
     } else if dst.len() < size {
@@ -250,13 +355,20 @@ fn compare_write(report: &mut Report, i: u64) {
 }
 
 pub fn compare(tally: &mut Tally) {
-    tally.add(Report::over(
-        "las_header_read and its counts",
-        HEADERS,
-        |report, part| {
-            part.for_each(|i| compare_read(report, i));
-        },
-    ));
+    let outcomes = stretches(HEADERS, |stretch| {
+        let mut outcome = Outcome::new(CALLS);
+        stretch.for_each(|i| compare_read(&mut outcome, i));
+        outcome
+    });
+    let read = outcomes.into_iter().fold(Outcome::new(CALLS), Outcome::and);
+    let [header, padding, points, end, format] = read.reports;
+    tally.add(header);
+    tally.add(padding);
+    tally.add(points);
+    tally.add(end);
+    tally.add(format.and(compare_point_formats()));
+    tally.add(SIZE.over(1 << 16, |i| (i as u32 >> 8, i as u32 & 0xff)));
+    tally.add(compare_default());
     tally.add(Report::over("las_header_write", HEADERS, |report, part| {
         part.for_each(|i| compare_write(report, i));
     }));

@@ -1,7 +1,7 @@
 //! Puts the same questions to the published Rust and to the port, and counts where they differ.
 //!
 //! A module for each subject holds its calls and says over which inputs they are compared. A new
-//! subject adds its declarations to `capi`, a module beside these, and a line to main.rs.
+//! subject adds a module beside these, and a line to main.rs.
 
 /// What could be wrong in a port, and the list of it all.
 macro_rules! errors {
@@ -39,4 +39,5 @@ pub mod records;
 pub mod replay;
 pub mod replay_records;
 pub mod report;
+pub mod strict;
 pub mod vlr;

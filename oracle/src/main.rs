@@ -2,13 +2,13 @@
 
 use oracle::{
     angle, convert, convert_plain, file, flags, format, header, listings, point, replay,
-    replay_records, report::Tally, vlr,
+    replay_records, report::Tally, strict, vlr,
 };
-use std::{env, io, path::Path, process::ExitCode};
+use std::{env, fs, io, path::Path, process::ExitCode};
 
 /// Compares everything. `crates` is where the programs lie that replay the lists.
 fn compare(crates: &Path, write: bool) -> io::Result<bool> {
-    let mut tally = Tally::new();
+    let mut tally = Tally::default();
     format::compare(&mut tally);
     flags::compare(&mut tally);
     angle::compare(&mut tally);
@@ -16,11 +16,13 @@ fn compare(crates: &Path, write: bool) -> io::Result<bool> {
     vlr::compare(&mut tally);
     header::compare(&mut tally);
     file::compare(&mut tally);
+    strict::compare(&mut tally);
     convert::compare(&mut tally);
     convert_plain::compare(&mut tally, &crates.join("../docs/DIFFERENCES.md"))?;
     replay::compare(&mut tally, &crates.join("replay"), write)?;
     replay_records::compare(&mut tally, &crates.join("replay_records"), write)?;
     listings::compare(&mut tally, &crates.join("listings"), write)?;
+    tally.covers(&fs::read_to_string(crates.join("../include/inscjarol.h"))?);
     Ok(tally.agreed())
 }
 

@@ -4,7 +4,7 @@ use crate::{
     angle,
     answer::{Answer, unnumbered},
     call::noise,
-    capi::{self, Numbers},
+    capi::{self, PointNumbers},
     flags,
     format::{self, LONGEST},
     records::{self, Lcg, record_len},
@@ -24,7 +24,7 @@ const BEFORE_BYTE: u8 = 0xa5;
 /// The 24 numbers that stand for a point. What is missing is zeros.
 // Inlined, as is `point`, so that bench/ can time the Rust at its best.
 #[inline]
-pub fn numbers(point: &Point) -> Numbers {
+pub fn numbers(point: &Point) -> PointNumbers {
     // Taken apart in full, so that a field of the Rust's can't be left out unnoticed. The extra
     // bytes have calls of their own.
     let &Point {
@@ -84,7 +84,7 @@ pub fn numbers(point: &Point) -> Numbers {
 /// The point that 24 numbers stand for: of a number that is too wide the low bits count, and any
 /// number but 0 says that a part is there.
 #[inline]
-pub fn point(n: &Numbers, extra: &[u8]) -> Point {
+pub fn point(n: &PointNumbers, extra: &[u8]) -> Point {
     let f32_at = |k: usize| f32::from_bits(n[k] as u32);
     Point {
         x: n[0] as i32,
@@ -130,6 +130,9 @@ pub(crate) fn rust_read(word: u32, bytes: &[u8]) -> Result<Point, Answer> {
     })
 }
 
+/// Compares a call on one record of a format word.
+type Compare = fn(&mut Report, u32, &[u8]);
+
 /// Compares a read: the row and all 24 numbers, which a refusal leaves as they were.
 fn read(report: &mut Report, word: u32, bytes: &[u8]) {
     let rust = match rust_read(word, bytes) {
@@ -137,7 +140,7 @@ fn read(report: &mut Report, word: u32, bytes: &[u8]) {
         Err(refusal) => (refusal, [BEFORE; 24]),
     };
     let mut numbers = [BEFORE; 24];
-    let row = capi::row(|row| capi::point_read(bytes, word, row, &mut numbers));
+    let row = capi::row(|row| capi::las_point_read(bytes, word, row, &mut numbers));
     report.check(rust == (row, numbers), || {
         let bytes = shown(bytes);
         format!("({word:#010x}, {bytes}): Rust {rust:x?}, port {row:x?} {numbers:x?}")
@@ -150,7 +153,7 @@ fn read(report: &mut Report, word: u32, bytes: &[u8]) {
 fn extra(report: &mut Report, word: u32, bytes: &[u8]) {
     let start = record_len(word) - usize::from(format::format(word).extra_bytes);
     let extra = rust_read(word, bytes).map_or(Vec::new(), |point| point.extra_bytes);
-    let [at, len] = capi::point_extra(bytes, word);
+    let [at, len] = capi::span(|part| capi::las_point_extra(bytes, word, part));
     let part = match len {
         0 => Some(&[][..]),
         _ => at
@@ -165,11 +168,20 @@ fn extra(report: &mut Report, word: u32, bytes: &[u8]) {
     report.by_rule(record_len(word) > LONGEST);
 }
 
+fn compare_default() -> Report {
+    let mut report = Report::new("las_point_default");
+    let rust = numbers(&Point::default());
+    let mut port = [BEFORE; 24];
+    capi::las_point_default(&mut port);
+    report.check(rust == port, || format!("Rust {rust:x?}, port {port:x?}"));
+    report
+}
+
 /// A point to write: the Rust's, and the numbers that stand for it. The destination has `room`.
 pub(crate) struct Writing<'a> {
     pub word: u32,
     pub point: &'a Point,
-    pub numbers: &'a Numbers,
+    pub numbers: &'a PointNumbers,
     pub room: usize,
 }
 
@@ -219,7 +231,7 @@ impl Writing<'_> {
         scratch.port.resize(self.room, BEFORE_BYTE);
         let extra = &self.point.extra_bytes;
         let dst = &mut scratch.port[..];
-        let port = capi::row(|row| capi::point_write(numbers, extra, word, dst, row));
+        let port = capi::row(|row| capi::las_point_write(numbers, extra, word, dst, row));
         report.check(rust == port && scratch.rust == scratch.port, || {
             let [extra, of_rust, of_port] = [extra, &scratch.rust, &scratch.port].map(|v| shown(v));
             format!(
@@ -230,9 +242,9 @@ impl Writing<'_> {
     }
 }
 
-/// Numbers without pattern: parts missing or there, with junk in what is then ignored and in the
+/// PointNumbers without pattern: parts missing or there, with junk in what is then ignored and in the
 /// bits that are too many; flags and angles of every kind.
-fn nth_numbers(i: u64) -> Numbers {
+pub(crate) fn nth_numbers(i: u64) -> PointNumbers {
     let mut lcg = Lcg::new(i);
     let mut n = [0; 24];
     n.fill_with(|| lcg.long());
@@ -255,8 +267,8 @@ fn nth_numbers(i: u64) -> Numbers {
         };
     }
     n[9] = lcg.f64_bits();
-    for float in 20..24 {
-        n[float] = n[float] & !0xffff_ffff | u64::from(lcg.f32_bits());
+    for float in &mut n[20..] {
+        *float = *float & !0xffff_ffff | u64::from(lcg.f32_bits());
     }
     n
 }
@@ -354,7 +366,7 @@ fn writes_of(size: u64, flags_and_angle: impl Fn(u64) -> (u32, u32) + Sync) -> R
 }
 
 /// An angle of the kind that the highest bit of `noise` says.
-fn any_angle(noise: u32) -> u32 {
+pub(crate) fn any_angle(noise: u32) -> u32 {
     match noise >> 31 {
         0 => angle::rank(noise as i8),
         _ => angle::scaled(noise as i16),
@@ -456,7 +468,7 @@ pub fn compare(tally: &mut Tally) {
         .into_iter()
         .flat_map(|word| [0, record_len(word)].map(|len| (word, len)))
         .collect();
-    let calls: [(_, fn(&mut Report, u32, &[u8])); 2] = [(READ, read), (EXTRA, extra)];
+    let calls: [(_, Compare); 2] = [(READ, read), (EXTRA, extra)];
     for (name, call) in calls {
         let lots: [(&[_], _); 6] = [
             (&few, 32_768),
@@ -470,4 +482,5 @@ pub fn compare(tally: &mut Tally) {
         tally.add(reports.into_iter().fold(Report::new(name), Report::and));
     }
     compare_writes(tally);
+    tally.add(compare_default());
 }

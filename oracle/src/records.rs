@@ -44,7 +44,7 @@ impl Lcg {
 
     /// Whether a throw with one chance in `n` hit.
     pub fn one_in(&mut self, n: u32) -> bool {
-        self.word() % n == 0
+        self.word().is_multiple_of(n)
     }
 
     pub fn fill(&mut self, bytes: &mut [u8]) {

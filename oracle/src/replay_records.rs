@@ -435,7 +435,7 @@ fn vlrs(list: &mut List) {
             list.vlr(from, from, ROOM, &vlr_bytes(from, b"", stated, 300));
         }
         list.vlr(from, from, ROOM, &vec![0; head]);
-        list.vlr(from, from, ROOM, &[&[0xff; 20][..], &vec![0; 40]].concat());
+        list.vlr(from, from, ROOM, &[&[0xff; 20][..], &[0; 40]].concat());
         for data in [0, 1, 300] {
             let bytes = vlr_bytes(from, b"LASF_Spec", data as u64, data);
             for to in [false, true] {

@@ -1,6 +1,6 @@
 //! Counting what was compared and keeping the first differences, in the same way for every call.
 
-use std::{fmt::Display, ops::Range, panic, thread};
+use std::{collections::BTreeSet, fmt::Display, ops::Range, panic, thread};
 
 /// How many differing inputs are shown for a call. The rest are only counted.
 const SHOWN: usize = 5;
@@ -56,12 +56,16 @@ impl Report {
 
     /// Adds what another report on the same call came to.
     pub fn and(mut self, other: Report) -> Report {
+        self.add(other);
+        self
+    }
+
+    fn add(&mut self, other: Report) {
         self.inputs += other.inputs;
         self.by_rule += other.by_rule;
         self.differences += other.differences;
         self.shown.extend(other.shown);
         self.shown.truncate(SHOWN);
-        self
     }
 
     /// Whether nothing differed so far.
@@ -111,30 +115,146 @@ pub fn stretches<T: Send>(size: u64, part: impl Fn(Range<u64>) -> T + Sync) -> V
     })
 }
 
-/// The sum of all reports.
-pub struct Tally(Report);
+/// The numbers of document 01, from 0 to 27.
+const NUMBERS: usize = 28;
 
-impl Tally {
-    pub fn new() -> Tally {
-        Tally(Report::new("in all"))
+/// What comparing several calls on the same inputs came to: a report for each, and what was counted.
+pub struct Outcome<const CALLS: usize, const COUNTS: usize> {
+    pub reports: [Report; CALLS],
+    pub counted: Counted<COUNTS>,
+}
+
+impl<const CALLS: usize, const COUNTS: usize> Outcome<CALLS, COUNTS> {
+    pub fn new(calls: [&'static str; CALLS]) -> Self {
+        Outcome {
+            reports: calls.map(Report::new),
+            counted: Counted {
+                counts: [0; COUNTS],
+                answered: [0; NUMBERS],
+            },
+        }
     }
 
+    /// Adds what the same calls came to on other inputs.
+    pub fn and(mut self, other: Self) -> Self {
+        for (report, more) in self.reports.iter_mut().zip(other.reports) {
+            report.add(more);
+        }
+        self.counted.add(&other.counted);
+        self
+    }
+
+    /// Whether nothing differed so far.
+    pub fn agrees(&self) -> bool {
+        self.reports.iter().all(Report::agrees)
+    }
+}
+
+/// Numbers of the inputs, whatever they count, and how often the rules gave each answer.
+pub struct Counted<const COUNTS: usize> {
+    pub counts: [u64; COUNTS],
+    answered: [u64; NUMBERS],
+}
+
+impl<const COUNTS: usize> Counted<COUNTS> {
+    fn add(&mut self, other: &Self) {
+        let both = [
+            (&mut self.counts[..], &other.counts[..]),
+            (&mut self.answered, &other.answered),
+        ];
+        for (counts, more) in both {
+            counts.iter_mut().zip(more).for_each(|(n, more)| *n += more);
+        }
+    }
+
+    /// Counts an answer of the rules.
+    pub fn answered(&mut self, number: u64) {
+        self.answered[number as usize] += 1;
+    }
+
+    /// Prints the counts, by their names, and how often each of the numbers was answered that the calls
+    /// can answer with. None may be rarer than `often`, or else the run has not tested it.
+    pub fn tell(
+        &self,
+        name: &'static str,
+        names: [&str; COUNTS],
+        numbers: &[usize],
+        often: u64,
+    ) -> Report {
+        for (name, count) in names.iter().zip(self.counts) {
+            println!("    {count:>11} {name}");
+        }
+        let mut report = Report::new(name);
+        for &number in numbers {
+            let times = self.answered[number];
+            println!("    {times:>11} times {number}");
+            report.check(times >= often, || format!("{number} only {times} times"));
+        }
+        report
+    }
+}
+
+/// The sum of all reports, and the functions of the port that they name.
+pub struct Tally {
+    sum: Report,
+    named: BTreeSet<&'static str>,
+}
+
+impl Default for Tally {
+    fn default() -> Tally {
+        Tally {
+            sum: Report::new("in all"),
+            named: BTreeSet::new(),
+        }
+    }
+}
+
+impl Tally {
     /// Prints a report and adds its numbers to the sum.
     pub fn add(&mut self, report: Report) {
-        self.0.inputs += report.inputs;
-        self.0.by_rule += report.by_rule;
+        self.sum.inputs += report.inputs;
+        self.sum.by_rule += report.by_rule;
         self.aside(report);
     }
 
     /// Prints a report whose inputs are no new ones: of its numbers only the differences count.
     pub fn aside(&mut self, report: Report) {
         report.print();
-        self.0.differences += report.differences;
+        self.sum.differences += report.differences;
+        if report.inputs > 0 {
+            self.named.extend(functions(report.name));
+        }
+    }
+
+    /// Compares the functions that a header declares with those that reports on some input named: none
+    /// is left out, and none is named that there isn't.
+    pub fn covers(&mut self, header: &str) {
+        let declared: BTreeSet<&str> = header
+            .lines()
+            .filter(|line| !line.starts_with([' ', '*', '/', '#']))
+            .flat_map(|line| line.split_once('(').map(|(before, _)| before))
+            .flat_map(functions)
+            .collect();
+        let mut report = Report::new("functions of inscjarol.h, compared");
+        for name in declared.union(&self.named) {
+            let there = declared.contains(name);
+            report.check(there && self.named.contains(name), || match there {
+                true => format!("{name} is in no report"),
+                false => format!("{name} is not in the header"),
+            });
+        }
+        self.aside(report);
     }
 
     /// Prints the sum and says whether nothing differed.
     pub fn agreed(&self) -> bool {
-        self.0.print();
-        self.0.agrees()
+        self.sum.print();
+        self.sum.agrees()
     }
+}
+
+/// The functions of the port that a text names.
+fn functions(text: &str) -> impl Iterator<Item = &str> {
+    text.split(|c: char| !c.is_ascii_alphanumeric() && c != '_')
+        .filter(|word| word.starts_with("las_"))
 }

@@ -2,9 +2,10 @@
 
 use crate::{
     answer::Answer,
+    call::Call,
     capi::{self, VlrHead},
     records::Lcg,
-    report::{Report, Tally},
+    report::{self, Report, Tally, stretches},
 };
 use las::raw::{Vlr, vlr::RecordLength};
 
@@ -63,6 +64,19 @@ impl Case {
         })
     }
 
+    /// The length that the head states, of which a byte past the end counts as 0.
+    fn stated_so_far(&self) -> u64 {
+        let mut whole = self.bytes.clone();
+        whole.resize(whole.len().max(head(self.extended)), 0);
+        let extended = self.extended;
+        Case {
+            bytes: whole,
+            extended,
+        }
+        .stated()
+        .expect("a whole head")
+    }
+
     /// Whether the Rust can be asked: it panics at a length that no memory holds.
     fn askable(&self) -> bool {
         self.stated().is_none_or(|stated| stated <= 1 << 16)
@@ -105,23 +119,64 @@ pub(crate) fn head_of(vlr: &Vlr) -> VlrHead {
     }
 }
 
-/// Compares a read: the head, the data's place and, on refusal, that nothing was written.
-fn compare_read(report: &mut Report, i: u64) {
+/// The calls that look at a record.
+type Outcome = report::Outcome<3, 0>;
+
+const CALLS: [&str; 3] = [
+    "las_vlr_read, las_vlr_data",
+    "las_vlr_measure",
+    "las_vlr_stated",
+];
+
+/// Compares a read: the head, the data's place and, on refusal, that nothing was written; then what
+/// is told of the record without reading it.
+fn compare_read(outcome: &mut Outcome, i: u64) {
     let case = Case::new(i);
     let mut found = BEFORE;
-    let port = capi::row(|row| capi::vlr_read(&case.bytes, case.extended, row, &mut found));
-    let [start, count] = capi::vlr_data(&case.bytes, case.extended);
-    let agrees = match read(&case) {
-        Some(vlr) => {
-            let data = start as usize..(start + count) as usize;
-            port == Answer::result(case.wanted())
-                && found == head_of(&vlr)
-                && case.bytes.get(data) == Some(&vlr.data[..])
-        }
-        None => port == Answer::refusal(1, case.wanted()) && found == BEFORE && count == 0,
+    let port = capi::row(|row| capi::las_vlr_read(&case.bytes, case.extended, row, &mut found));
+    let [start, count] = capi::span(|part| capi::las_vlr_data(&case.bytes, case.extended, part));
+    let rust = read(&case);
+    let answer = match &rust {
+        Some(_) => Answer::result(case.wanted()),
+        None => Answer::refusal(1, case.wanted()),
     };
-    report.check(agrees, || format!("record {i}: port {port}"));
-    report.by_rule(!case.askable());
+    let agrees = port == answer
+        && match &rust {
+            Some(vlr) => {
+                let data = start as usize..(start + count) as usize;
+                found == head_of(vlr) && case.bytes.get(data) == Some(&vlr.data[..])
+            }
+            None => found == BEFORE && count == 0,
+        };
+    let [reading, measuring, stating] = &mut outcome.reports;
+    reading.check(agrees, || format!("record {i}: port {port}"));
+    reading.by_rule(!case.askable());
+
+    let port = capi::row(|row| capi::las_vlr_measure(&case.bytes, case.extended, row));
+    measuring.compare(answer, port, || format!("record {i}"));
+    measuring.by_rule(!case.askable());
+
+    // Of a record that is not all there the Rust tells nothing.
+    let stated = rust.as_ref().map_or(case.stated_so_far(), length);
+    let port = capi::las_vlr_stated(&case.bytes, case.extended);
+    stating.compare(stated, port, || format!("record {i}"));
+    stating.by_rule(rust.is_none());
+}
+
+static HEAD_SIZE: Call = Call {
+    name: "las_vlr_head_size",
+    op: None,
+    rust: |x, _| Answer::result(las::Vlr::default().len(x == 1) as u64),
+    port: |x, _| Answer::result(capi::las_vlr_head_size(x == 1)),
+};
+
+fn compare_default() -> Report {
+    let mut report = Report::new("las_vlr_default");
+    let rust = head_of(&Vlr::default());
+    let mut port = BEFORE;
+    capi::las_vlr_default(&mut port);
+    report.check(rust == port, || format!("Rust {rust:?}, port {port:?}"));
+    report
 }
 
 /// Compares a write of what was read, or of another length of data than stated, into enough room
@@ -147,7 +202,7 @@ fn compare_write(report: &mut Report, i: u64) {
     let stated = length(&vlr);
     let extended = matches!(vlr.record_length_after_header, RecordLength::Evlr(_));
     let port = capi::row(|row| {
-        capi::vlr_write(extended, &head_of(&vlr), &vlr.data, &mut dst, row);
+        capi::las_vlr_write(extended, &head_of(&vlr), &vlr.data, &mut dst, row);
     });
     let agrees = if vlr.data.len() as u64 != stated {
         port == Answer::refusal(24, stated) && dst == untouched
@@ -165,13 +220,17 @@ fn compare_write(report: &mut Report, i: u64) {
 }
 
 pub fn compare(tally: &mut Tally) {
-    tally.add(Report::over(
-        "las_vlr_read, las_vlr_data",
-        RECORDS,
-        |report, part| {
-            part.for_each(|i| compare_read(report, i));
-        },
-    ));
+    let outcomes = stretches(RECORDS, |stretch| {
+        let mut outcome = Outcome::new(CALLS);
+        stretch.for_each(|i| compare_read(&mut outcome, i));
+        outcome
+    });
+    let read = outcomes.into_iter().fold(Outcome::new(CALLS), Outcome::and);
+    for report in read.reports {
+        tally.add(report);
+    }
+    tally.add(HEAD_SIZE.over(2, |i| (i as u32, 0)));
+    tally.add(compare_default());
     tally.add(Report::over("las_vlr_write", RECORDS, |report, part| {
         part.for_each(|i| compare_write(report, i));
     }));

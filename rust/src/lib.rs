@@ -62,7 +62,8 @@
 //! ```
 //!
 //! What is proved, and what is trusted, is in `docs/TRUST.md` of the repository: the rules, layouts and conversions are
-//! proved; this crate, which declares the library's calls by hand and turns their numbers into types, is tested.
+//! proved; this crate, which turns the library's numbers into types, and `inscjarol-sys` under it, which declares the
+//! library's calls by hand, are tested.
 
 #![forbid(unsafe_code)]
 #![deny(missing_docs, rustdoc::broken_intra_doc_links)]

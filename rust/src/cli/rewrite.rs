@@ -60,6 +60,8 @@ fn run(words: &Words, out: &mut Output) -> Result<Status, Failure> {
         Ok(file) => file,
         Err(refusal) => return out.refused(&name, &refusal),
     };
+    // One call writes the whole file, and it says nothing before it ends: so only the time is shown. Record by record the tool
+    // could count, but then the bytes would be its own putting together, and no longer those of the call that is proved.
     let progress = Progress::new(format!("rewriting {name}"), None);
     let written = rewrite(&file, to);
     drop(progress);
