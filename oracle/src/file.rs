@@ -613,7 +613,7 @@ fn step(file: &[u8], place: Place) -> (Row, PointNumbers, Place) {
 /// Compares steps from places that no file check gives, but that a caller can make: every overlong
 /// format, places on both sides of the last record's and where sums wrap, any count, any refusal.
 fn compare_places(library: &impl Library) -> Report {
-    let mut report = Report::new("the same two from made places");
+    let mut report = Report::new("las_file_next from made places");
     let mut file = vec![0; 2 * LONGEST];
     Lcg::new(0).fill(&mut file);
     let mut compare = |place: Place| {
@@ -669,7 +669,7 @@ fn compare_places(library: &impl Library) -> Report {
 fn compare_cursors(library: &impl Library, files: u64) -> Report {
     const TIMES: u64 = 400;
     Report::over(
-        "the same two from made cursors",
+        "las_cursor_next from made cursors",
         files,
         |report, stretch| {
             let (mut whole, mut found) = (Whole::default(), Found::default());
