@@ -1,4 +1,3 @@
-use Prim.Native.Nat.{ℕ}
 use mathlib.Core.Path.{_≡_, ap, sym, subst, _∙_}
 use borrow.Author.Needs.{needs}
 use Rattle.pairs.specs.Sound.{PlannedSound}
