@@ -1,14 +1,13 @@
 // A point record, written. `write_to` of src/raw/point.rs of las 0.11.2; a crate of its own, to keep checks short.
 ghost use mathlib.Core.Path.{_≡_};
-ghost use mathlib.Core.Bool.{true, false};
+ghost use mathlib.Core.Bool.{cond};
 ghost use mathlib.Core.List.{_++_};
 ghost use Prim.Native.Nat.{_+_, _≤_};
-ghost use lib.ListN.{length, drop};
+ghost use lib.ListN.{length};
 ghost use lib.Seq.{sets};
-ghost use Rattle.flags.specs.Bytes.{twoBytesOf};
 ghost use Rattle.format.specs.Fields.{restOf, recordBytes};
 ghost use Rattle.point_bytes.specs.Bytes.{timeBytes, colorBytes, nirBytes, waveformBytes};
-ghost use Rattle.point_write.specs.Write.{onlyBytes, joined, recordOf, flaggedOf, sizedOf, writtenOf};
+ghost use Rattle.point_write.specs.Write.{onlyBytes, joined, sizedOf, writtenOf};
 use flags::TwoBytes;
 use format::Format;
 use format::FormatLen;
@@ -44,27 +43,11 @@ fn write_sized(point: Point, extra: &[u8], dst: &mut [u8], format: Format, n: us
         return Wrote::Refused(Refusal::NoRoom(n as u64));
     }
     if format.is_extended {
-        write_extended(point, extra, dst, format, n);
+        let core = point_bytes::extended_core(point);
+        lent::put(dst, &core);
+        write_rest(point, extra, dst, format, 22);
         return Wrote::Bytes(n);
     }
-    write_legacy(point, extra, dst, format, n)
-}
-
-// A point of an extended format whose record has n bytes, for which there is room.
-fn write_extended(point: Point, extra: &[u8], dst: &mut [u8], format: Format, n: usize)
-    requires { ⌜ (format .«is_extended» ≡ true) × ((n ≡ 22 + length (joined format point (now extra) (restOf format))) × (n ≤ length (now dst))) ⌝ }
-    ensures { λ _. ⌜ now (dst .exit) ≡ recordOf format point (now (extra .entry)) ++ drop n (now (dst .entry)) ⌝ }
-{
-    let core = point_bytes::extended_core(point);
-    lent::put(dst, &core);
-    write_rest(point, extra, dst, format, 22);
-}
-
-// The same of a legacy format, refused where the flags do not fit it.
-fn write_legacy(point: Point, extra: &[u8], dst: &mut [u8], format: Format, n: usize) -> Wrote
-    requires { ⌜ (format .«is_extended» ≡ false) × ((n ≡ 20 + length (joined format point (now extra) (restOf format))) × (n ≤ length (now dst))) ⌝ }
-    ensures { λ r. ⌜ (r, now (dst .exit)) ≡ flaggedOf format point (now (extra .entry)) n (now (dst .entry)) (twoBytesOf (point .flags)) ⌝ }
-{
     let flags = point.flags;
     match flags.to_two_bytes() {
         TwoBytes::Bytes(a, b) => {

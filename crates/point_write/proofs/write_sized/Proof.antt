@@ -1,18 +1,21 @@
--- The refusals follow the tests, and after them the record fits.
+-- What was written before the time and after it is the table's record; the refusals follow the tests.
 use Prim.Native.Nat.{ℕ, _+_}
-use mathlib.Core.Path.{_≡_, sym, ap, _∙_}
-use mathlib.Core.List.{List}
+use mathlib.Core.Path.{_≡_, refl, sym, ap, _∙_}
+use mathlib.Core.List.{List, _++_}
 use mathlib.Core.Bool.{Bool, true, false, cond}
 use borrow.Author.Needs.{needs}
-use borrow.Author.Tests.{eq-eqb, ne-eqb, lt-ltb}
+use borrow.Author.Tests.{eq-eqb, ne-eqb, lt-ltb, le-ltb}
 use native.Mathlib.Omega.{arith}
-use lib.ListN.{length}
+use lib.ListN.{length, drop}
+use Rattle.lent.specs.Front.{frontOf}
 use Rattle.lent.specs.declared.Wrote.the-variants.{Bytes}
 use Rattle.format.specs.declared.Field.the-variants.{GpsTime}
 use Rattle.format.specs.Fields.{restOf, placeOf}
 use Rattle.format.specs.Laws.{rest-sum}
-use Rattle.point_write.specs.Write.{joined, sizedOf}
-use Rattle.point_write.specs.Laws.{rest-length, sized-extended, sized-legacy}
+use Rattle.point_bytes.specs.Bytes.{coreOf, legacyCoreOf}
+use Rattle.point_write.specs.Write.{joined, recordOf, flaggedOf, sizedOf}
+use Rattle.point_write.specs.Laws.{rest-length, core-length, legacy-core-length, extended-is, legacy-is, sized-extended, sized-legacy}
+use Rattle.point_write.proofs.Whole.{rest-fits, made}
 use Rattle.point_write.proofs.write_sized.Statement.{statement}
 use Rattle.point_write.proofs.write_sized.Tie as tie
 
@@ -37,37 +40,67 @@ returns-2 c =
     let a = c .before .before .before .before .before .args in
     rw (eq-eqb _ _ (c .before .if1 .left), lt-ltb (length (a .dst .now)) (a .n) (omega arith))
 
-write-extended-requires : tie.Need-write-extended-requires
-write-extended-requires c κs =
-    let t = c .before in
-    (t .if3 .taken, (parts (t .before .before) true (t .if3 .taken), t .before .if2 .left))
+-- extended: the core is in place, and the rest fits behind it
+module _ (c : tie.After-put) where
+  abbrev begun : tie.Start
+  begun = c .before .before .before .before .before .before .before .before .before .before
+
+  put-core : (c .put .result, c .put .last .0) ≡ frontOf (coreOf (begun .args .point)) (begun .args .dst .now)
+  put-core = rw (c .before .before .before .extended-core .ensures) at (c .put .ensures)
+
+write-rest-requires : tie.Need-write-rest-requires
+write-rest-requires c κs =
+    let q = c .before .before .before in
+    let s = q .before .before .before .before .before .before .before .before .before .before in
+    let a = s .args in
+    rest-fits (a .dst .now) (coreOf (a .point)) (rest s) (q .put .last .0) 22 (a .n) (q .put .result)
+    (core-length (a .format) (a .point) (a .extra .now)) (parts (q .before .before .before .before .before .before) true (q .before .before .before .before .if3 .taken)) (q .before .before .before .before .before .if2 .left) (put-core q)
 
 returns-3 : tie.Need-returns-3
 returns-3 c =
-    let w = c .before .before in
-    let t = w .before .before in
-    let l = t .before .before in
-    let a = l .before .before .before .before .args in
-    ap (λ (d : List ℕ). (Bytes (a .n), d)) (w .write-extended .ensures)
-    ∙ sym (sized-extended (a .format) (a .point) (a .extra .now) (a .n) (a .dst .now) (l .if1 .left) (t .before .if2 .left) (t .if3 .taken))
+    let q = c .before .before .before .before .before .before in
+    let s = q .before .before .before .before .before .before .before .before .before .before in
+    let a = s .args in
+    let x = made (a .dst .now) (coreOf (a .point)) (rest s) (q .put .last .0) 22 (a .n) (q .put .result)
+    (core-length (a .format) (a .point) (a .extra .now)) (parts (q .before .before .before .before .before .before) true (q .before .before .before .before .if3 .taken)) (q .before .before .before .before .before .if2 .left) (put-core q) _ (c .before .before .write-rest .ensures) in
+    ap (λ (l : List ℕ). (Bytes (a .n), l)) (x ∙ ap (λ (l : List ℕ). l ++ drop (a .n) (a .dst .now)) (sym (extended-is (a .format) (a .point) (a .extra .now) (q .before .before .before .before .if3 .taken))))
+    ∙ sym (sized-extended (a .format) (a .point) (a .extra .now) (a .n) (a .dst .now) (q .before .before .before .before .before .before .if1 .left) (q .before .before .before .before .before .if2 .left) (q .before .before .before .before .if3 .taken))
 
-write-legacy-requires : tie.Need-write-legacy-requires
-write-legacy-requires c κs =
-    let t = c .before in
-    (t .if3 .left, (parts (t .before .before) false (t .if3 .left), t .before .if2 .left))
+put-legacy : (c : tie.After-put2) → (c .put2 .result, c .put2 .last .0) ≡ frontOf (legacyCoreOf (c .before .before .before .before .before .before .before .before .before .before .before .before .before .before .args .point) (c .before .before .before .before .before .a .given .0 .0) (c .before .before .before .before .before .a .given .0 .1 .0)) (c .before .before .before .before .before .before .before .before .before .before .before .before .before .before .args .dst .now)
+put-legacy c = rw (c .before .before .before .legacy-core .ensures) at (c .put2 .ensures)
+
+write-rest-requires-2 : tie.Need-write-rest-requires-2
+write-rest-requires-2 c κs =
+    let q = c .before .before .before in
+    let s = q .before .before .before .before .before .before .before .before .before .before .before .before .before .before in
+    let a = s .args in
+    let v = q .before .before .before .before .before .a .given .0 in
+    rest-fits (a .dst .now) (legacyCoreOf (a .point) (v .0) (v .1 .0)) (rest s) (q .put2 .last .0) 20 (a .n) (q .put2 .result)
+    (legacy-core-length (a .format) (a .point) (a .extra .now) (v .0) (v .1 .0)) (parts (q .before .before .before .before .before .before .before .before .before .before) false (q .before .before .before .before .before .before .before .before .if3 .left)) (q .before .before .before .before .before .before .before .before .before .if2 .left) (put-legacy q)
 
 returns-4 : tie.Need-returns-4
 returns-4 c =
-    let w = c .before .before in
-    let t = w .before .before in
-    let l = t .before .before in
-    let a = l .before .before .before .before .args in
-    w .write-legacy .ensures
-    ∙ sym (sized-legacy (a .format) (a .point) (a .extra .now) (a .n) (a .dst .now) (l .if1 .left) (t .before .if2 .left) (t .if3 .left))
+    let q = c .before .before .before .before .before .before in
+    let s = q .before .before .before .before .before .before .before .before .before .before .before .before .before .before in
+    let a = s .args in
+    let v = q .before .before .before .before .before .a .given .0 in
+    let legacy = q .before .before .before .before .before .before .before .before .if3 .left in
+    let t = sym (q .before .before .before .before .before .before .before .to-two-bytes .ensures) ∙ q .before .before .before .before .before .a .given .1 in
+    let x = made (a .dst .now) (legacyCoreOf (a .point) (v .0) (v .1 .0)) (rest s) (q .put2 .last .0) 20 (a .n) (q .put2 .result)
+    (legacy-core-length (a .format) (a .point) (a .extra .now) (v .0) (v .1 .0)) (parts (q .before .before .before .before .before .before .before .before .before .before) false legacy) (q .before .before .before .before .before .before .before .before .before .if2 .left) (put-legacy q) _ (c .before .before .write-rest2 .ensures) in
+    ap (λ (l : List ℕ). (Bytes (a .n), l)) (x ∙ ap (λ (l : List ℕ). l ++ drop (a .n) (a .dst .now)) (sym (legacy-is (a .format) (a .point) (a .extra .now) (v .0) (v .1 .0) legacy t)))
+    ∙ ap (flaggedOf (a .format) (a .point) (a .extra .now) (a .n) (a .dst .now)) (sym t)
+    ∙ sym (sized-legacy (a .format) (a .point) (a .extra .now) (a .n) (a .dst .now) (q .before .before .before .before .before .before .before .before .before .before .if1 .left) (q .before .before .before .before .before .before .before .before .before .if2 .left) legacy)
+
+returns-5 : tie.Need-returns-5
+returns-5 c =
+    let s = c .before .before .before .before .before .before .before .before .before .before in
+    let a = s .args in
+    ap (flaggedOf (a .format) (a .point) (a .extra .now) (a .n) (a .dst .now)) (sym (c .before .refusal .given .1) ∙ c .before .before .before .to-two-bytes .ensures)
+    ∙ sym (sized-legacy (a .format) (a .point) (a .extra .now) (a .n) (a .dst .now) (c .before .before .before .before .before .before .if1 .left) (c .before .before .before .before .before .if2 .left) (c .before .before .before .before .if3 .left))
 
 pub write-sized-spec : {M : Type 1} → statement M
 write-sized-spec =
     tie.close
     (tie.spec
-    (λ c. search needs) returns returns-2 write-extended-requires (λ c. search needs) returns-3 write-legacy-requires
-    (λ c. search needs) returns-4)
+    (λ c. search needs) returns returns-2 (λ c κs. search needs) (λ c. search needs) (λ c κs. search needs) write-rest-requires (λ c. search needs) returns-3 (λ c κs. search needs) (λ c. search needs) (λ c κs. search needs) (λ c. search needs) (λ c κs. search needs) write-rest-requires-2 (λ c. search needs) (λ c. search needs) returns-4 returns-5)
