@@ -2,16 +2,14 @@
 // fixed bits, and an answer that may be a refusal goes into a row of three numbers that the caller lends: document 01's
 // number, value and record number, where number 0 says that it worked and the value is the result.
 ghost use mathlib.Core.Path.{_≡_};
-ghost use mathlib.Core.List.{[], _∷_};
-ghost use Prim.Native.Nat.{_≤_};
 ghost use lib.IntN.{pos};
 ghost use Rattle.angle.specs.Angle.{nearestRank, toRank, toScaled, toDegrees, fromDegrees, sameAngle};
 ghost use Rattle.flags.specs.Readings.{returnNumberOf, numberOfReturnsOf, directionOf, syntheticOf, keyPointOf, withheldOf, overlapOf, channelOf, edgeOf, classOf};
-ghost use Rattle.flags.specs.Bytes.{twoBytesOf, threeBytesOf, clearedOf, sameOf, flag};
+ghost use Rattle.flags.specs.Bytes.{twoBytesOf, threeBytesOf, clearedOf, sameOf};
 ghost use Rattle.format.specs.Codes.{formatOf, codeOf};
 ghost use Rattle.format.specs.Fields.{lenOf};
 ghost use Rattle.format.specs.Format.{extendedOf, plain};
-ghost use Rattle.words.specs.Words.{packedOf, angleOf, angleWord, directionWord, flagsOf, flagsWord, threeWord, formatOfWord, formatWord};
+ghost use Rattle.words.specs.Words.{angleOf, angleWord, directionWord, flagsOf, flagsWord, threeWord, formatOfWord, formatWord};
 ghost use Rattle.capi.specs.Rows.{newRow, lenRow, codeRow, twoRow};
 use angle::ScanAngle;
 use flags::Flags;

@@ -5,7 +5,7 @@
 // numbers, its kind (0 header, 1 VLR, 2 gap, 3 points, 4 EVLR), its first byte and its bytes. Rows are those of the crate words.
 ghost use mathlib.Core.Path.{_≡_};
 ghost use Rattle.cursor.specs.Cursor.{startedOf};
-ghost use Rattle.capi_cursor.specs.Numbers.{kindNumber, partNumbers, stageNumber, stageFrom, cursorNumbers, planFrom, cursorFrom, startedRow, steppedRow};
+ghost use Rattle.capi_cursor.specs.Numbers.{kindNumber, partNumbers, stageNumber, stageFrom, cursorNumbers, cursorFrom, startedRow, steppedRow};
 use cursor::Cursor;
 use cursor::Kind;
 use cursor::Part;

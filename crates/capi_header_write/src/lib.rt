@@ -5,7 +5,6 @@ ghost use mathlib.Core.Path.{_≡_};
 ghost use Prim.Native.Nat.{_%_, _<_};
 ghost use lib.ListN.{getD};
 ghost use Rattle.le.specs.Real.{f64Of};
-ghost use Rattle.le.specs.declared.float.F64.{F64};
 ghost use Rattle.header_write.specs.Wrote.{wroteOf};
 ghost use Rattle.words.specs.Rows.{writtenRow};
 ghost use Rattle.capi_header_write.specs.Numbers.{lowFrom, startFrom, evlrFrom, largeFrom, nansFrom, headerFrom};

@@ -13,7 +13,6 @@ use Rattle.walker.specs.declared.Start.the-variants as start
 use Rattle.walker.specs.declared.Place.{Place}
 use Rattle.walker.specs.declared.Walked.{Walked}
 use Rattle.walker.specs.declared.Walked.the-variants as walked
-use Rattle.walker.specs.declared.Took.{Took}
 use Rattle.walker.specs.Walk.{recordOf, tookOf}
 use Rattle.capi_point.specs.Numbers.{numbersOf}
 

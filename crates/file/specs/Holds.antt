@@ -1,12 +1,12 @@
 -- Rules 1 to 8 of document 01 as one conjunction, in ℕ and without an order; that the list of rules says the same.
-use Prim.Native.Nat.{ℕ, zero, suc, _+_, _*_, _-_, _≤_, _<_}
+use Prim.Native.Nat.{ℕ, zero, suc, _+_, _≤_, _<_}
 use mathlib.Core.Path.{_≡_, refl, sym, subst}
 use mathlib.Core.Bool.{Bool, true, false, cond, _||_}
 use mathlib.Core.List.{List, [], _∷_, _++_}
 use native.Mathlib.Omega.{arith}
 use borrow.Author.Tests.{lt-ltb, le-leb, ltb-true, leb-true, eqb-true, eqb-false}
-use lib.Dec.{T, eqb, ltb, leb}
-use lib.ListN.{length, take, drop}
+use lib.Dec.{T, eqb, leb}
+use lib.ListN.{length, drop}
 use Rattle.refusal.specs.declared.Refusal.the-variants.{EvlrStart}
 use Rattle.vlr.specs.Layout.{headSize}
 use Rattle.vlr.specs.Vlr.{recordSize}

@@ -1,12 +1,12 @@
 -- What the definitions of Readings and Bytes add up to.
 use Prim.Native.Nat.{ℕ, _+_, _*_, _/_, _%_, _<_}
-use mathlib.Core.Path.{_≡_, refl, ap, sym, _∙_}
+use mathlib.Core.Path.{_≡_, refl, sym, _∙_}
 use mathlib.Core.Bool.{Bool, true, false}
 use native.Mathlib.Nat.{div-add-mod, div-div-eq-div-mul}
 use native.Mathlib.Omega.{arith}
 use borrow.Author.Tests.{eqb-true, eqb-false, eq-eqb, ne-eqb}
 use lib.Dec.{eqb}
-use Rattle.flags.specs.declared.Flags.the-variants.{TwoByte, ThreeByte}
+use Rattle.flags.specs.declared.Flags.the-variants.{TwoByte}
 use Rattle.flags.specs.Readings.{low, field, classOf, overlapOf, standardOverlapOf}
 
 -- what lies from one place up is the digit there and what lies from the next place up

@@ -1,7 +1,7 @@
 // The header written: `Header::write_to` of src/raw/header.rs of las 0.11.2. It stands apart from crate `header` so that
 // each is checked within half a minute.
 ghost use mathlib.Core.Path.{_≡_};
-ghost use Prim.Native.Nat.{_+_, _≤_};
+ghost use Prim.Native.Nat.{_+_};
 ghost use lib.ListN.{length};
 ghost use lib.Seq.{sets};
 ghost use Rattle.header.specs.Layout.{LegacyNumberOfPointsByReturn, NumberOfPointsByReturn, place, origin, contents, scales, bounds, large, fieldsOf};

@@ -1,16 +1,16 @@
 -- The bits of a signed number, at every width: what the functions of `signed` ask. Assumes nothing.
-use mathlib.Core.Path.{_≡_, refl, ap, sym, _∙_}
-use mathlib.Core.Bool.{Bool, true, false}
-use Prim.Native.Nat.{ℕ, suc, zero, _+_, _-_, _*_, _^_, _≤_, _<_}
+use mathlib.Core.Path.{_≡_, refl, ap}
+use mathlib.Core.Bool.{true, false}
+use Prim.Native.Nat.{ℕ, suc, zero, _-_, _^_, _≤_, _<_}
 use native.Mathlib.Nat.{zero-add}
 use native.Mathlib.Omega.{arith}
-use borrow.Author.Tests.{ltb-true, ltb-false, le-ltb}
+use borrow.Author.Tests.{ltb-true, le-ltb}
 use lib.Dec.{T, ltb}
-use lib.IntN.{ℤ, pos, negsuc, negℤ, natAbs, _-ℤ_}
+use lib.IntN.{ℤ, pos, negsuc, natAbs, _-ℤ_}
 use lib.Signed.{mag, ltZ, nonNeg}
 use mir.Syntax.{Width}
 use mir.Val.{Fits, SFits, ofZ, toZ, bits, hbits}
-use mir.ValLaws.{toZ-ofZ, toZ-pos, toZ-neg, pow-bits, half-full}
+use mir.ValLaws.{toZ-ofZ, toZ-pos, pow-bits, half-full}
 
 -- -1 less a negative number, and less one that is not
 less-neg : (n : ℕ) → negsuc 0 -ℤ negsuc n ≡ pos n

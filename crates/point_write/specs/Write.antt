@@ -1,5 +1,5 @@
 -- The bytes of a point record, its parts in the order of the table (document 01, "Record layouts"), and what writing one answers and leaves.
-use Prim.Native.Nat.{ℕ, _+_}
+use Prim.Native.Nat.{ℕ}
 use mathlib.Core.Bool.{Bool, true, false, cond}
 use mathlib.Core.List.{List, [], _∷_, _++_}
 use lib.Dec.{ltb, eqb}

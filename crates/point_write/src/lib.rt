@@ -1,7 +1,5 @@
 // A point record, written. `write_to` of src/raw/point.rs of las 0.11.2; a crate of its own, to keep checks short.
 ghost use mathlib.Core.Path.{_≡_};
-ghost use mathlib.Core.Bool.{cond};
-ghost use mathlib.Core.List.{_++_};
 ghost use Prim.Native.Nat.{_+_, _≤_};
 ghost use lib.ListN.{length};
 ghost use lib.Seq.{sets};

@@ -1,6 +1,6 @@
 -- What a word means: a value that C holds as a u32, its parts at fixed bits.
 use Prim.Native.Nat.{ℕ, _+_, _*_, _/_, _%_}
-use mathlib.Core.Bool.{Bool, cond}
+use mathlib.Core.Bool.{cond}
 use lib.Dec.{eqb}
 use mir.Syntax.{w8, w16}
 use mir.Val.{toZ, ofZ}

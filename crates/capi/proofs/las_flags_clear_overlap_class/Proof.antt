@@ -1,4 +1,4 @@
-use mathlib.Core.Path.{sym, ap, _∙_}
+use mathlib.Core.Path.{ap, _∙_}
 use Rattle.words.specs.Words.{flagsWord}
 use Rattle.flags.specs.Bytes.{clearedOf}
 use borrow.Author.Needs.{needs}

@@ -1,4 +1,4 @@
-use mathlib.Core.Path.{sym, ap, _∙_}
+use mathlib.Core.Path.{ap, _∙_}
 use Rattle.words.specs.Words.{formatWord}
 use Rattle.format.specs.Format.{extendedOf}
 use borrow.Author.Needs.{needs}

@@ -1,7 +1,6 @@
-use Prim.Native.Nat.{_+_, _-_}
 use borrow.Author.Needs.{needs}
 use Rattle.rules.specs.declared.Checked.the-variants.{Accepted}
-use Rattle.extents.specs.Extents.{partRules, vlrRules, vlrBytes, pointRule, evlrRules, recordsOf}
+use Rattle.extents.specs.Extents.{partRules, vlrRules, vlrBytes, recordsOf}
 use Rattle.extents.proofs.Then.{then-refused, then-accepted}
 use Rattle.extents.proofs.check_parts.Statement.{statement}
 use Rattle.extents.proofs.check_parts.Tie as tie

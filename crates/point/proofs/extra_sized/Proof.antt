@@ -1,9 +1,8 @@
 -- The part from the table's place for the extra bytes to the record's end is as long as the format says.
-use Prim.Native.Nat.{ℕ, _-_}
+use Prim.Native.Nat.{_-_}
 use mathlib.Core.Path.{_≡_, ap}
 use borrow.Author.Tests.{lt-ltb, le-ltb}
 use native.Mathlib.Omega.{arith}
-use lib.ListN.{take, drop}
 use Rattle.format.specs.declared.Field.the-variants.{ExtraBytes}
 use Rattle.format.specs.Fields.{placeOf}
 use Rattle.format.specs.Laws.{record-end}

@@ -8,7 +8,7 @@ use lib.ListN.{length}
 use lib.Seq.{sets}
 use Rattle.lent.specs.Laws.{room, next, tail}
 use Rattle.point_bytes.specs.Bytes.{timeBytes, colorBytes, nirBytes, waveformBytes}
-use Rattle.point_write.specs.Write.{onlyBytes, joined}
+use Rattle.point_write.specs.Write.{onlyBytes}
 use Rattle.point_write.specs.Laws.{fromColor, fromNir, fromWaveform, rest-is}
 use Rattle.point_write.proofs.write_rest.Statement.{statement}
 use Rattle.point_write.proofs.write_rest.Tie as tie

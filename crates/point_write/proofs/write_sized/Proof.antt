@@ -1,10 +1,10 @@
 -- What was written before the time and after it is the table's record; the refusals follow the tests.
 use Prim.Native.Nat.{ℕ, _+_}
-use mathlib.Core.Path.{_≡_, refl, sym, ap, _∙_}
+use mathlib.Core.Path.{_≡_, sym, ap, _∙_}
 use mathlib.Core.List.{List, _++_}
 use mathlib.Core.Bool.{Bool, true, false, cond}
 use borrow.Author.Needs.{needs}
-use borrow.Author.Tests.{eq-eqb, ne-eqb, lt-ltb, le-ltb}
+use borrow.Author.Tests.{eq-eqb, ne-eqb, lt-ltb}
 use native.Mathlib.Omega.{arith}
 use lib.ListN.{length, drop}
 use Rattle.lent.specs.Front.{frontOf}
@@ -13,7 +13,7 @@ use Rattle.format.specs.declared.Field.the-variants.{GpsTime}
 use Rattle.format.specs.Fields.{restOf, placeOf}
 use Rattle.format.specs.Laws.{rest-sum}
 use Rattle.point_bytes.specs.Bytes.{coreOf, legacyCoreOf}
-use Rattle.point_write.specs.Write.{joined, recordOf, flaggedOf, sizedOf}
+use Rattle.point_write.specs.Write.{joined, flaggedOf, sizedOf}
 use Rattle.point_write.specs.Laws.{rest-length, core-length, legacy-core-length, extended-is, legacy-is, sized-extended, sized-legacy}
 use Rattle.point_write.proofs.Whole.{rest-fits, made}
 use Rattle.point_write.proofs.write_sized.Statement.{statement}

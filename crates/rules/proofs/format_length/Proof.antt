@@ -4,7 +4,6 @@ use mathlib.Core.Path.{_≡_, sym, ap, _∙_}
 use mathlib.Core.Bool.{false}
 use native.Mathlib.Omega.{arith}
 use borrow.Author.Needs.{needs}
-use Rattle.format.specs.declared.Format.{Format}
 use Rattle.format.specs.declared.NewFormat.the-variants as new
 use Rattle.format.specs.declared.FormatLen.the-variants as len
 use Rattle.format.specs.Codes.{coded}

@@ -1,13 +1,12 @@
 -- The test goes by what is left past the head; the record's size is the head's and the stated length.
 use Prim.Native.Nat.{_+_}
-use mathlib.Core.Path.{_≡_, ap, _∙_}
+use mathlib.Core.Path.{_≡_, ap}
 use borrow.Author.Needs.{needs}
 use borrow.Author.Tests.{lt-leb, le-leb}
 use native.Mathlib.Omega.{arith}
 use lib.ListN.{length}
 use Rattle.vlr.specs.Vlr.{recordSize}
 use Rattle.rules.specs.declared.Measured.the-variants.{Refused}
-use Rattle.rules.specs.Rules.{tooFar}
 use Rattle.rules.specs.Steps.{measuredOf}
 use Rattle.rules.proofs.measure.Statement.{statement}
 use Rattle.rules.proofs.measure.Tie as tie

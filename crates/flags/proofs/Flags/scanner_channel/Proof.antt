@@ -1,4 +1,4 @@
-use mathlib.Core.Path.{sym, ap, _∙_}
+use mathlib.Core.Path.{sym, ap}
 use Rattle.flags.specs.Readings.{channelOf}
 use borrow.Author.Needs.{needs}
 use Rattle.flags.proofs.Flags.scanner_channel.Statement.{statement}

@@ -1,10 +1,10 @@
 -- Field by field, from the places that the call gave.
-use mathlib.Core.Path.{_≡_, refl, sym, ap, _∙_}
+use mathlib.Core.Path.{_≡_, sym, ap, _∙_}
 use Prim.Native.Nat.{ℕ, _+_}
 use borrow.Author.Needs.{needs}
 use native.Mathlib.Omega.{arith}
-use Rattle.format.specs.declared.Field.the-variants.{GpsTime, Color, Nir, ExtraBytes}
-use Rattle.format.specs.Fields.{placeOf, recordBytes}
+use Rattle.format.specs.declared.Field.the-variants.{ExtraBytes}
+use Rattle.format.specs.Fields.{placeOf}
 use Rattle.format.specs.Laws.{further, record-end, fixed-le}
 use Rattle.layout.specs.declared.Places.{Places}
 use Rattle.layout.specs.Layout.{placesOf, placedOf, layoutOf}

@@ -2,8 +2,6 @@ use Rattle.point.specs.Read.{noPoint}
 use borrow.Author.Needs.{needs}
 use Rattle.point.proofs.Point.default.Statement.{statement}
 use Rattle.point.proofs.Point.default.Tie as tie
-use Rattle.angle.proofs.ScanAngle.default.Reads as ScanAngle-default-reads
-use Rattle.flags.proofs.Flags.default.Reads as Flags-default-reads
 
 returns : tie.Need-returns
 unfolding noPoint
