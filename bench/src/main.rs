@@ -3,6 +3,7 @@
 //!
 //! Every round times each contender once, in turn, so that what slows the machine for a while slows them all.
 
+mod by_hand;
 mod large;
 mod work;
 
@@ -75,12 +76,25 @@ const TO_OLD: Line = Line {
     ..REWRITE
 };
 
+/// What a loop in Rust for these two formats takes.
+const TO_OLD_BY_HAND: Line = Line {
+    name: "the same, in Rust bytes moved by hand",
+    rust: Work::hand_to_old,
+    ..TO_OLD
+};
+
 const TO_NEW: Line = Line {
     name: "upgrade",
     code: 1,
     rust: Work::rust_to_new,
     port: Work::port_to_new,
     ..TO_OLD
+};
+
+const TO_NEW_BY_HAND: Line = Line {
+    name: "the same, in Rust bytes moved by hand",
+    rust: Work::hand_to_new,
+    ..TO_NEW
 };
 
 /// Its times are those of a call, whatever the file has of points.
@@ -92,8 +106,18 @@ const CHECK: Line = Line {
     ..READ
 };
 
-const LINES: [Line; 9] = [
-    READ, WRITE, WALK, SUMS, COLUMNS, REWRITE, TO_OLD, TO_NEW, CHECK,
+const LINES: [Line; 11] = [
+    READ,
+    WRITE,
+    WALK,
+    SUMS,
+    COLUMNS,
+    REWRITE,
+    TO_OLD,
+    TO_OLD_BY_HAND,
+    TO_NEW,
+    TO_NEW_BY_HAND,
+    CHECK,
 ];
 
 /// Which of them are timed at several sizes, and at which.

@@ -1,6 +1,7 @@
 //! What is timed: records of one format, alone and as the points of a whole file, and each piece of work on them
 //! done by the published Rust, by the port, and by memcpy of the same bytes.
 
+use crate::by_hand;
 use las::{
     PointData, PointDataBuilder,
     point::Format,
@@ -326,6 +327,24 @@ impl Work {
             }
             black_box(&header);
         }
+    }
+}
+
+/// Bytes moved by hand, in the Rust's place.
+impl Work {
+    fn hand_convert(&mut self, record: usize, convert: fn(&[u8], &mut [u8])) {
+        self.rust_made.resize(self.count * record, 0);
+        let records = &self.file[POINTS_AT..][..self.count * self.record];
+        convert(black_box(records), &mut self.rust_made);
+        black_box(&mut self.rust_made);
+    }
+
+    pub fn hand_to_old(&mut self) {
+        self.hand_convert(by_hand::OLD, by_hand::to_old);
+    }
+
+    pub fn hand_to_new(&mut self) {
+        self.hand_convert(by_hand::NEW, by_hand::to_new);
     }
 }
 
