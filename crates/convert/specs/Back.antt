@@ -15,7 +15,7 @@ use Rattle.point.specs.Read.{pointOf}
 use Rattle.strict.specs.declared.Fit.{Fit}
 use Rattle.strict.specs.declared.Fit.the-variants as fit
 use Rattle.strict.specs.Fit.{fitOf}
-use Rattle.strict.specs.Shown.{Paired}
+use Rattle.pairs.specs.Paired.{Paired}
 use Rattle.strict.specs.Theorems.{up-and-down}
 use Rattle.judge.specs.declared.Judged.the-variants as judged
 use Rattle.convert.specs.declared.Converted.the-variants as converted
@@ -35,7 +35,7 @@ module _ {old new : ℕ} (pair : Up old new) (extra : ℕ) where
   paired = down-paired (way-back pair) extra
 
   up-sound : NotOverlong old new extra → Sound true (planOf (formatWith old extra) (formatWith new extra))
-  up-sound long = plan-of-sound true _ _ (long .0) (long .1) (sym (paired .extra)) (λ _. paired .is-new)
+  up-sound long = plan-of-sound true _ _ (long .0) (long .1) paired
 
   -- the upgraded records fit, and their images in the old format are the records themselves
   run-back : NotOverlong old new extra → (number count : ℕ) (s rest : List ℕ) → le.Bytes s → runLength old extra count ≤ length s → No28 old extra count s → (judgeRun (formatWith new extra) (lengthOf new extra) number count (imagesOf true (planOf (formatWith old extra) (formatWith new extra)) count s ++ rest) ≡ judged.Fits) × (imagesOf false (planOf (formatWith new extra) (formatWith old extra)) count (imagesOf true (planOf (formatWith old extra) (formatWith new extra)) count s ++ rest) ≡ take (runLength old extra count) s)
@@ -54,7 +54,7 @@ module _ {old new : ℕ} (pair : Up old new) (extra : ℕ) where
       let all = (first ++ others) ++ rest in
       let whole : m + c * m ≤ length s = omega (arith, suc-mul c m) in
       let long : length (take m s) ≡ m = length-take-le m s (omega arith) in
-      let size : length first ≡ n = image-length true up sound (take m s) long (takes-new up (sound .above refl) (suc c) s .0) in
+      let size : length first ≡ n = image-length true up sound (take m s) long (takes-new up (paired .is-new) (suc c) s .0) in
       let head : take n all ≡ first ++ [] = ap (take n) (append-assoc first others rest) ∙ take-at first (others ++ rest) n size ∙ sym (append-nil first) in
       let tail : drop n all ≡ others ++ rest = ap (drop n) (append-assoc first others rest) ∙ drop-at first (others ++ rest) n size in
       let one = up-and-down b a paired (take m s) (bytes-take m s bytes) [] (omega arith) (λ q. class zero (omega arith) (ap (λ (t : List ℕ). classOf (pointOf a (take m t) .flags)) (at-zero m s) ∙ q)) in
@@ -99,7 +99,7 @@ module _ {old new : ℕ} (pair : Up old new) (extra : ℕ) where
         let rest = drop (runLength new extra count) d in
         let images = imagesOf true up count s in
         let again = run-back short 1 count s rest bytes there class in
-        let size : length images ≡ runLength new extra count = images-length true up sound count s (takes-new up (sound .above refl) count s) there in
+        let size : length images ≡ runLength new extra count = images-length true up sound count s (takes-new up (paired .is-new) count s) there in
         let long : runLength new extra count ≤ length (images ++ rest) = simp length-append (omega arith) in
         down-told (way-back pair) extra count e d′
         ∙ told-run false b a count e d′ (ran .1) (ran .0)

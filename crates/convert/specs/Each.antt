@@ -17,7 +17,8 @@ use Rattle.point.specs.Read.{pointOf, fieldOf}
 use Rattle.strict.specs.declared.Fit.{Fit}
 use Rattle.strict.specs.declared.Fit.the-variants as fit
 use Rattle.strict.specs.Fit.{fitOf}
-use Rattle.strict.specs.Shown.{Same, Paired, downImage}
+use Rattle.strict.specs.Shown.{Same, downImage}
+use Rattle.pairs.specs.Paired.{Paired}
 use Rattle.strict.specs.Whole.{fits-two}
 use Rattle.strict.specs.Theorems.{shown-the-same}
 use Rattle.pairs.specs.declared.Plan.{Plan}

@@ -11,7 +11,7 @@ use Rattle.strict.specs.Theorems.{refused-only-then, no-old-record-shows-it}
 use Rattle.convert.specs.declared.Converted.the-variants as converted
 use Rattle.pairs.specs.Pairs.{formatWith}
 use Rattle.convert.specs.Run.{imagesOf, toOldOf}
-use Rattle.pairs.specs.Sound.{Sound, not-up}
+use Rattle.pairs.specs.Sound.{Sound}
 use Rattle.convert.specs.Demand.{Down, runLength, SameValues, FirstUnfit, RefusedFor, of-record}
 use Rattle.judge.specs.Laws.{goes}
 use Rattle.convert.specs.Laws.{takes-all, images-length}
@@ -23,7 +23,7 @@ module _ {new old : ℕ} (pair : Down new old) (extra count : ℕ) (s d : List �
     down-sound : Sound false (planOf (formatWith new extra) (formatWith old extra))
     down-sound =
         let run = told-bytes false _ _ count s d (sym (down-told pair extra count s d) ∙ h) in
-        plan-of-sound false _ _ (run .0) (run .1) (down-paired pair extra .extra) not-up
+        plan-of-sound false _ _ (run .0) (run .1) (down-paired pair extra)
 
     down-written : Written false (planOf (formatWith new extra) (formatWith old extra)) count s d n e
     down-written = written false _ count s d (told-bytes false _ _ count s d (sym (down-told pair extra count s d) ∙ h) .2)

@@ -1,28 +1,26 @@
--- Laws of the run's records: a whole record is read, a point that the writer takes is written, and where a run is judged to fit the
--- writer takes each of its records.
+-- Laws of the run's records: an image has the target's length and is laid piece by piece, and where a run is judged to fit the writer
+-- takes each of its records.
 use Prim.Native.Nat.{ℕ, zero, suc, _+_, _*_, _≤_}
 use mathlib.Core.Path.{_≡_, refl, ap, sym, _∙_}
 use mathlib.Core.Bool.{Bool, true, false, cond}
 use mathlib.Core.List.{List, _++_}
-use native.Mathlib.Nat.{zero-mul, suc-mul}
+use native.Mathlib.Nat.{zero-add, zero-mul, suc-mul}
 use native.Mathlib.Omega.{arith}
-use borrow.Author.Tests.{le-ltb}
 use lib.ListN.{length, take, drop, length-append, length-drop}
-use lib.Seq.{length-take-le}
-use Rattle.lent.specs.declared.Wrote.{Wrote}
-use Rattle.lent.specs.declared.Wrote.the-variants as wrote
+use lib.Seq.{sets, length-take-le}
+use Rattle.le.specs.Le.{Bytes}
+use Rattle.lent.specs.Laws.{sets-append, whole as laid}
 use Rattle.format.specs.declared.Format.{Format}
 use Rattle.format.specs.declared.FormatLen.the-variants as len
-use Rattle.format.specs.declared.Field.the-variants.{ExtraBytes}
-use Rattle.format.specs.Fields.{restOf, sizes, lenOf}
-use Rattle.format.specs.Laws.{rest-sum, len-is}
+use Rattle.format.specs.declared.Field.the-variants.{GpsTime, ExtraBytes}
+use Rattle.format.specs.Fields.{restOf, placeOf, sizes, recordBytes, lenOf}
+use Rattle.format.specs.Laws.{rest-sum, record-sum, len-is}
 use Rattle.point.specs.declared.Point.{Point}
-use Rattle.point.specs.declared.PointRead.the-variants.{Is}
-use Rattle.point.specs.Read.{pointOf, fieldOf, sizedOf, readAfter, readOf, extraOf}
+use Rattle.point.specs.Read.{pointOf, fieldOf}
 use Rattle.point_bytes.specs.Bytes.{coreOf, legacyCoreOf}
-use Rattle.point_write.specs.Write.{joined, recordOf, flaggedOf, writtenAfter, writtenOf}
-use Rattle.point_write.specs.Laws.{extended-is, legacy-is, rest-length, core-length, legacy-core-length, sized-extended, sized-legacy}
-use Rattle.point_write.specs.Answered.{answered, extra-length}
+use Rattle.point_write.specs.Write.{joined, recordOf}
+use Rattle.point_write.specs.Laws.{extended-is, legacy-is, rest-length, core-length, legacy-core-length}
+use Rattle.point_write.specs.Answered.{extra-length}
 use Rattle.strict.specs.declared.Fit.{Fit}
 use Rattle.strict.specs.declared.Fit.the-variants as fit
 use Rattle.strict.specs.Fit.{fitOf}
@@ -30,19 +28,15 @@ use Rattle.strict.specs.Whole.{fits-two}
 use Rattle.pairs.specs.declared.Plan.{Plan}
 use Rattle.pairs.specs.declared.Planned.{Planned}
 use Rattle.pairs.specs.declared.Planned.the-variants as planned
-use Rattle.pairs.specs.Sound.{Sound, not-up}
+use Rattle.pairs.specs.Sound.{Sound, same-extra, not-up}
 use Rattle.judge.specs.declared.Judged.{Judged}
 use Rattle.judge.specs.declared.Judged.the-variants as judged
 use Rattle.judge.specs.Judge.{judgedBy, judgeRun, recordsOf, judgedOf, verdictOn, verdictBy}
 use Rattle.convert.specs.Run.{turnedOf, imageOf, imagesOf, ran, convertedOf, convertedBy, doneOf}
 use Rattle.convert.specs.Asked.{Takes, TakesRun}
+use Rattle.convert.specs.Moved.{middleOf, restFrom, image-moved, middle-goes, middle-end}
 
--- a whole record is read
-pub whole-read : (f : Format) (s : List ℕ) → lenOf f ≡ len.Is (length s) → readOf f s ≡ Is (pointOf f s)
-unfolding readOf sizedOf
-whole-read f s whole = ap (readAfter f s) whole ∙ rw (le-ltb (length s) (length s) (omega arith))
-
--- a point that the writer takes, with as many extra bytes as the format's: the record has the format's length, and is written
+-- a point that the writer takes, with as many extra bytes as the format's: the record has the format's length
 module _ (f : Format) (p : Point) (e : List ℕ) (n : ℕ) (long : lenOf f ≡ len.Is n) (he : length e ≡ f .«extra_bytes») (takes : Takes f p) where
   sum : (c : Bool) → f .«is_extended» ≡ c → n ≡ cond c 22 20 + length (joined f p e (restOf f))
   sum c t = len-is f n long ∙ rest-sum f ∙ ap (λ (b : Bool). cond b 22 20 + sizes f (restOf f)) t ∙ ap (λ (k : ℕ). cond c 22 20 + k) (sym (rest-length f p e he))
@@ -56,28 +50,26 @@ module _ (f : Format) (p : Point) (e : List ℕ) (n : ℕ) (long : lenOf f ≡ l
           let w = takes t in
           rw (legacy-is f p e (w .0) (w .1) t (w .2)) (length-append (legacyCoreOf p (w .0) (w .1)) _ ∙ omega (arith, legacy-core-length f p e (w .0) (w .1), sum false t))
 
-  pub taken-written : (d : List ℕ) → n ≤ length d → writtenOf f p e d ≡ (wrote.Bytes n, recordOf f p e ++ drop n d)
-  unfolding writtenOf
-  taken-written d room = ap (writtenAfter f p e d) long ∙ go (f .«is_extended») refl
-    where
-      go : (c : Bool) → f .«is_extended» ≡ c → writtenAfter f p e d (len.Is n) ≡ (wrote.Bytes n, recordOf f p e ++ drop n d)
-      go true t = sized-extended f p e n d he room t
-      go false t = sized-legacy f p e n d he room t ∙ ap (flaggedOf f p e n d) (takes t .2)
-
--- a whole record of the source that the writer takes: its image has the target's length, and is what the writer leaves
+-- a whole record of the source that the writer takes: its image has the target's length
 module _ (up : Bool) (p : Plan) (sound : Sound up p) (s : List ℕ) (whole : length s ≡ p .«source_length») (takes : Takes (p .target) (turnedOf up (pointOf (p .source) s))) where
   extra-kept : length (fieldOf (p .source) ExtraBytes s) ≡ p .target .«extra_bytes»
-  extra-kept = extra-length (p .source) s (omega (arith, len-is (p .source) (p .«source_length») (sound .from))) ∙ sound .extra
+  extra-kept = extra-length (p .source) s (omega (arith, len-is (p .source) (p .«source_length») (sound .from))) ∙ same-extra up _ _ (sound .mates)
 
   pub image-length : length (imageOf up p s) ≡ p .«target_length»
   unfolding imageOf
   image-length = taken-length (p .target) _ _ (p .«target_length») (sound .into) extra-kept takes
 
-  pub image-laid : (d : List ℕ) {ys : List ℕ} {r : Wrote} {q : Point} → p .«target_length» ≤ length d → readOf (p .source) s ≡ Is q → (r, ys) ≡ writtenOf (p .target) (turnedOf up q) (extraOf (p .source) s) d → ys ≡ imageOf up p s ++ drop (p .«target_length») d
-  unfolding imageOf
-  image-laid d {ys} {r} {q} room is e =
-      let a = answered (p .source) s q is in
-      ap (λ (w : Wrote × List ℕ). w .1) (rw (a .point, a .extra) at e ∙ taken-written (p .target) _ _ (p .«target_length») (sound .into) extra-kept takes d room)
+  -- laid piece by piece, it is the image at the front
+  pub image-laid : Bytes s → (d : List ℕ) → p .«target_length» ≤ length d → sets (sets (sets d 0 (take 14 s)) 14 (middleOf up s)) (placeOf (p .target) GpsTime) (restFrom (p .source) (p .target) s) ≡ imageOf up p s ++ drop (p .«target_length») d
+  image-laid all d room =
+      let size : recordBytes (p .source) ≡ length s = sym (len-is (p .source) (p .«source_length») (sound .from)) ∙ sym whole in
+      let front : length (take 14 s) ≡ 14 = length-take-le 14 s (omega (arith, record-sum (p .source))) in
+      let end = middle-end up (p .source) (p .target) (sound .mates) s (middle-goes up p (sound .mates) s all size takes) in
+      let rest = restFrom (p .source) (p .target) s in
+      sym
+      (ap (sets d 0) (image-moved up p (sound .mates) s all size takes) ∙ sets-append d (take 14 s) (middleOf up s ++ rest) 0
+      ∙ rw (front, zero-add) (sets-append (sets d 0 (take 14 s)) (middleOf up s) rest 14 ∙ rw end))
+      ∙ laid d (imageOf up p s) (p .«target_length») image-length room
 
 -- where the records fit, the writer takes each of them
 pub takes-old : (p : Plan) (number k : ℕ) (s : List ℕ) → judgeRun (p .source) (p .«source_length») number k s ≡ judged.Fits → TakesRun false p k s
@@ -102,7 +94,7 @@ takes-new p t zero s = tt
 takes-new p t (suc k) s = (λ f. not-up (sym f ∙ t), takes-new p t k (drop (p .«source_length») s))
 
 pub takes-all : (up : Bool) (p : Plan) → Sound up p → (count : ℕ) (s : List ℕ) → recordsOf up p count s ≡ judged.Fits → TakesRun up p count s
-takes-all true p sound count s e = takes-new p (sound .above refl) count s
+takes-all true p sound count s e = takes-new p (sound .mates .is-new) count s
 takes-all false p sound count s e = takes-old p 1 count s e
 
 -- a run's images have as many bytes as its records in the target format

@@ -11,10 +11,9 @@ use Rattle.refusal.specs.declared.Refusal.{Refusal}
 use Rattle.refusal.specs.declared.Refusal.the-variants.{NoPair, RecordLength}
 use Rattle.format.specs.declared.Format.{Format}
 use Rattle.format.specs.declared.FormatLen.the-variants as len
-use Rattle.format.specs.Codes.{isIn, coded}
 use Rattle.format.specs.Fields.{recordBytes, lenOf}
 use Rattle.format.specs.Laws.{record-sum}
-use Rattle.strict.specs.Shown.{Paired}
+use Rattle.pairs.specs.Paired.{Paired, Mates, six-one, seven-three, eight-three, nine-four, ten-five}
 use Rattle.pairs.specs.declared.Pair.the-variants.{Formats}
 use Rattle.pairs.specs.declared.Plan.{Plan}
 use Rattle.convert.specs.declared.Converted.{Converted}
@@ -64,28 +63,21 @@ module _ (up : Bool) (a b : Format) where
         go false true f g h = not-bytes _ 0 n d e h
         go false false f g h = (ltb-false _ _ f, ltb-false _ _ g, h)
 
-  pub plan-of-sound : recordBytes a ≤ 65535 → recordBytes b ≤ 65535 → a .«extra_bytes» ≡ b .«extra_bytes» → (up ≡ true → b .«is_extended» ≡ true) → Sound up (planOf a b)
+  pub plan-of-sound : recordBytes a ≤ 65535 → recordBytes b ≤ 65535 → Mates up a b → Sound up (planOf a b)
   unfolding lenOf
-  plan-of-sound h l extra above =
-      record { from = rw (le-ltb 65535 (recordBytes a) h); into = rw (le-ltb 65535 (recordBytes b) l); extra = extra; above = above }
+  plan-of-sound h l mates =
+      record { from = rw (le-ltb 65535 (recordBytes a) h); into = rw (le-ltb 65535 (recordBytes b) l); mates = mates }
 
 -- the old record of a pair is the shorter
 pub shorter : (new old : Format) → Paired new old → recordBytes old ≤ recordBytes new
 shorter new old pair = rw (record-sum new, record-sum old, pair .is-new, pair .is-old, pair .time, pair .color, pair .waveform, pair .no-nir, pair .extra) (omega arith)
 
--- the two formats of a pair of codes
-pair-paired : (new old extra : ℕ) → coded new false .«is_extended» ≡ true → coded old false .«is_extended» ≡ false → coded new false .«has_gps_time» ≡ coded old false .«has_gps_time» → coded new false .«has_color» ≡ coded old false .«has_color» → coded new false .«has_waveform» ≡ coded old false .«has_waveform» → coded old false .«has_nir» ≡ false → Paired (formatWith new extra) (formatWith old extra)
-unfolding formatWith
-pair-paired new old extra is-new is-old time color waveform nir =
-    record { is-new = is-new; is-old = is-old; time = time; color = color; waveform = waveform; no-nir = nir; extra = refl }
-
 pub down-paired : {new old : ℕ} → Down new old → (extra : ℕ) → Paired (formatWith new extra) (formatWith old extra)
-unfolding coded isIn
-down-paired from-6 extra = pair-paired 6 1 extra refl refl refl refl refl refl
-down-paired from-7 extra = pair-paired 7 3 extra refl refl refl refl refl refl
-down-paired from-8 extra = pair-paired 8 3 extra refl refl refl refl refl refl
-down-paired from-9 extra = pair-paired 9 4 extra refl refl refl refl refl refl
-down-paired from-10 extra = pair-paired 10 5 extra refl refl refl refl refl refl
+down-paired from-6 = six-one
+down-paired from-7 = seven-three
+down-paired from-8 = eight-three
+down-paired from-9 = nine-four
+down-paired from-10 = ten-five
 
 -- what a run of a pair is told, on the way down and up
 pub down-told : {new old : ℕ} → Down new old → (extra count : ℕ) (s d : List ℕ) → toOldOf new extra count s d ≡ told false (formatWith new extra) (formatWith old extra) count s d

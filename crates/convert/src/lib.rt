@@ -1,21 +1,28 @@
 // Runs of point records, converted strictly down to an old format and upgraded to a new one, as document 01 adds. A run is
 // judged whole before its first byte is written; judging and writing are apart.
 ghost use mathlib.Core.Path.{_≡_};
+ghost use mathlib.Core.Bool.{false, cond};
 ghost use mathlib.Core.List.{_++_};
-ghost use Prim.Native.Nat.{_*_, _≤_};
-ghost use lib.ListN.{length, drop};
-ghost use Rattle.format.specs.declared.FormatLen.the-variants as len;
-ghost use Rattle.format.specs.Fields.{lenOf};
+ghost use Prim.Native.Nat.{_+_, _*_, _≤_};
+ghost use lib.ListN.{length, take, drop};
+ghost use lib.Seq.{sets};
+ghost use Rattle.le.specs.Le.{bytes};
+ghost use Rattle.format.specs.declared.Field.the-variants.{GpsTime, Waveform};
+ghost use Rattle.format.specs.Fields.{placeOf};
 ghost use Rattle.point.specs.Read.{pointOf};
+ghost use Rattle.point_write.specs.Write.{onlyBytes};
 ghost use Rattle.pairs.specs.Sound.{Sound};
 ghost use Rattle.judge.specs.Laws.{Ready};
 ghost use Rattle.convert.specs.Run.{turnedOf, imageOf, imagesOf, doneOf, toOldOf, toNewOf};
 ghost use Rattle.convert.specs.Asked.{Takes, TakesRun};
+ghost use Rattle.convert.specs.Moved.{twoOf, newMiddle, oldMiddle, middleOf, Middle, restFrom};
+use angle::ScanAngle;
+use flags::Flags;
+use flags::TwoBytes;
 use format::Format;
 use judge::Verdict;
+use le::signed;
 use pairs::Plan;
-use point::Point;
-use point::PointRead;
 use refusal::Refusal;
 
 // The bytes written, or a refusal with its record number.
@@ -75,38 +82,191 @@ fn write(src: &[u8], plan: Plan, count: usize, up: bool, dst: &mut [u8])
     }
 }
 
-// A record in the target format, written from what its readers answer.
+// A record in the target format: what the writer makes of what the reader answers. Flags and angle are made anew; all else is
+// moved from its place in the source to its place in the target, since to read and write it would give the same bytes.
 fn write_record(src: &[u8], plan: Plan, up: bool, dst: &mut [u8])
     requires { ⌜ Sound up plan × (length (now src) ≡ plan .«source_length») × (plan .«target_length» ≤ length (now dst)) × Takes (plan .target) (turnedOf up (pointOf (plan .source) (now src))) ⌝ }
     ensures { λ _. ⌜ now (dst .exit) ≡ imageOf up plan (now (src .entry)) ++ drop (plan .«target_length») (now (dst .entry)) ⌝ }
 {
     let source = plan.source;
     let target = plan.target;
-    point_write::write_to(
-        read(src, source, up),
-        point::extra_bytes(src, source),
-        dst,
-        target,
-    );
+    let front = fourteen(&src[..14]);
+    put_at(dst, 0, &front);
+    write_middle(src, up, dst);
+    move_rest(src, source, dst, target);
 }
 
-// The point of a whole record, as it is or upgraded. Such a record is not refused, so the else is not reached.
-fn read(src: &[u8], format: Format, up: bool) -> Point
-    requires { ⌜ lenOf format ≡ len.Is (length (now src)) ⌝ }
-    ensures { λ r. ⌜ r ≡ turnedOf up (pointOf format (now (src .entry))) ⌝ }
+// Some bytes at place at. The part that is lent is as long as they are, so that what writes them tests nothing.
+fn put_at(dst: &mut [u8], at: usize, bytes: &[u8])
+    requires { ⌜ at + length (now bytes) ≤ length (now dst) ⌝ }
+    ensures { λ _. ⌜ now (dst .exit) ≡ sets (now (dst .entry)) at (now (bytes .entry)) ⌝ }
 {
-    let PointRead::Is(point) = Point::read_from(src, format) else {
-        return Point::default();
-    };
-    turned(point, up)
+    let end = at + bytes.len();
+    lent::put(&mut dst[at..end], bytes);
 }
 
-// The point as it is, or upgraded.
-fn turned(point: Point, up: bool) -> Point
-    ensures { λ r. ⌜ r ≡ turnedOf up point ⌝ }
+// The bytes of a part of that length. They are read as numbers, which the compiler moves at once: a slice that it can't tell from
+// the destination it would move byte by byte.
+
+fn fourteen(part: &[u8]) -> [u8; 14]
+    requires { ⌜ length (now part) ≡ 14 ⌝ }
+    ensures { λ r. ⌜ r ≡ now (part .entry) ⌝ }
+{
+    let a = le::u64_at(part, 0);
+    let b = le::u32_at(part, 8);
+    let c = le::u16_at(part, 12);
+    [
+        (a % 256) as u8,
+        (a / 256 % 256) as u8,
+        (a / 65536 % 256) as u8,
+        (a / 16777216 % 256) as u8,
+        (a / 4294967296 % 256) as u8,
+        (a / 1099511627776 % 256) as u8,
+        (a / 281474976710656 % 256) as u8,
+        (a / 72057594037927936 % 256) as u8,
+        (b % 256) as u8,
+        (b / 256 % 256) as u8,
+        (b / 65536 % 256) as u8,
+        (b / 16777216 % 256) as u8,
+        (c % 256) as u8,
+        (c / 256 % 256) as u8,
+    ]
+}
+
+fn eight(part: &[u8]) -> [u8; 8]
+    requires { ⌜ length (now part) ≡ 8 ⌝ }
+    ensures { λ r. ⌜ r ≡ now (part .entry) ⌝ }
+{
+    le::u64_bytes(le::u64_at(part, 0))
+}
+
+fn six(part: &[u8]) -> [u8; 6]
+    requires { ⌜ length (now part) ≡ 6 ⌝ }
+    ensures { λ r. ⌜ r ≡ now (part .entry) ⌝ }
+{
+    let a = le::u32_at(part, 0);
+    let b = le::u16_at(part, 4);
+    [
+        (a % 256) as u8,
+        (a / 256 % 256) as u8,
+        (a / 65536 % 256) as u8,
+        (a / 16777216 % 256) as u8,
+        (b % 256) as u8,
+        (b / 256 % 256) as u8,
+    ]
+}
+
+// A piece, where the formats have it.
+
+fn move_time(src: &[u8], from: usize, has: bool, dst: &mut [u8], to: usize)
+    requires { ⌜ (from + cond has 8 0 ≤ length (now src)) × (to + cond has 8 0 ≤ length (now dst)) ⌝ }
+    ensures { λ _. ⌜ now (dst .exit) ≡ sets (now (dst .entry)) to (take (cond has 8 0) (drop from (now (src .entry)))) ⌝ }
+{
+    if has {
+        let time = eight(&src[from..from + 8]);
+        put_at(dst, to, &time);
+    }
+}
+
+fn move_color(src: &[u8], from: usize, has: bool, dst: &mut [u8], to: usize)
+    requires { ⌜ (from + cond has 6 0 ≤ length (now src)) × (to + cond has 6 0 ≤ length (now dst)) ⌝ }
+    ensures { λ _. ⌜ now (dst .exit) ≡ sets (now (dst .entry)) to (take (cond has 6 0) (drop from (now (src .entry)))) ⌝ }
+{
+    if has {
+        let color = six(&src[from..from + 6]);
+        put_at(dst, to, &color);
+    }
+}
+
+// A near infrared of 0, where the target has one.
+fn put_no_nir(dst: &mut [u8], at: usize, has: bool)
+    requires { ⌜ at + cond has 2 0 ≤ length (now dst) ⌝ }
+    ensures { λ _. ⌜ now (dst .exit) ≡ sets (now (dst .entry)) at (onlyBytes has (bytes 2 0)) ⌝ }
+{
+    if has {
+        put_at(dst, at, &[0; 2]);
+    }
+}
+
+// What stands after the source id, from place to place.
+fn move_rest(src: &[u8], source: Format, dst: &mut [u8], target: Format)
+    requires { ⌜ (placeOf source Waveform ≤ length (now src)) × (placeOf target Waveform + length (drop (placeOf source Waveform) (now src)) ≤ length (now dst)) × (target .«has_gps_time» ≡ source .«has_gps_time») × (target .«has_color» ≡ source .«has_color») ⌝ }
+    ensures { λ _. ⌜ now (dst .exit) ≡ sets (now (dst .entry)) (placeOf target GpsTime) (restFrom source target (now (src .entry))) ⌝ }
+{
+    let from = layout::places_for(source);
+    let to = layout::places_for(target);
+    move_time(src, from.gps_time, source.has_gps_time, dst, to.gps_time);
+    move_color(src, from.color, source.has_color, dst, to.color);
+    put_no_nir(dst, to.nir, target.has_nir);
+    let others = from.waveform;
+    put_at(dst, to.waveform, &src[others..]);
+}
+
+// The flags, the angle, the user data and the source id.
+fn write_middle(src: &[u8], up: bool, dst: &mut [u8])
+    requires { ⌜ (cond up 20 22 ≤ length (now src)) × (cond up 22 20 ≤ length (now dst)) × Middle up (now src) ⌝ }
+    ensures { λ _. ⌜ now (dst .exit) ≡ sets (now (dst .entry)) 14 (middleOf up (now (src .entry))) ⌝ }
 {
     if up {
-        return strict::upgraded(point);
+        let bytes = new_middle(&src[..20]);
+        put_at(dst, 14, &bytes);
+        return;
     }
-    point
+    write_old_middle(&src[..22], dst);
+}
+
+// Those of an old record made new; `core` is what stands before the time.
+fn new_middle(core: &[u8]) -> [u8; 8]
+    ensures { λ r. ⌜ r ≡ newMiddle (now (core .entry)) ⌝ }
+{
+    let old_flags = Flags::TwoByte(le::u8_at(core, 14), le::u8_at(core, 15));
+    let flags = strict::upgraded_flags(old_flags).to_three_bytes();
+    let rank = ScanAngle::Rank(le::i8_at(core, 16));
+    let angle = signed::bits16(rank.to_scaled());
+    let source = le::u16_at(core, 18);
+    [
+        flags.a,
+        flags.b,
+        flags.c,
+        le::u8_at(core, 17),
+        (angle % 256) as u8,
+        (angle / 256 % 256) as u8,
+        (source % 256) as u8,
+        (source / 256 % 256) as u8,
+    ]
+}
+
+// Those of a new record made old. Its flags have two bytes, since the run was judged, so the else is not reached.
+fn write_old_middle(core: &[u8], dst: &mut [u8])
+    requires { ⌜ (20 ≤ length (now dst)) × Middle false (now core) ⌝ }
+    ensures { λ _. ⌜ now (dst .exit) ≡ sets (now (dst .entry)) 14 (oldMiddle (now (core .entry))) ⌝ }
+{
+    let flags = Flags::ThreeByte(
+        le::u8_at(core, 14),
+        le::u8_at(core, 15),
+        le::u8_at(core, 16),
+    );
+    let TwoBytes::Bytes(a, b) = flags.to_two_bytes() else {
+        return;
+    };
+    let bytes = old_middle(core, a, b);
+    put_at(dst, 14, &bytes);
+}
+
+// The same, with the two bytes of flags.
+fn old_middle(core: &[u8], a: u8, b: u8) -> [u8; 6]
+    requires { ⌜ twoOf (now core) ≡ TwoBytes.Bytes a b ⌝ }
+    ensures { λ r. ⌜ r ≡ oldMiddle (now (core .entry)) ⌝ }
+{
+    let scan_angle = ScanAngle::Scaled(le::i16_at(core, 18));
+    let rank = signed::bits8(scan_angle.to_rank());
+    let source = le::u16_at(core, 20);
+    [
+        a,
+        b,
+        rank,
+        le::u8_at(core, 17),
+        (source % 256) as u8,
+        (source / 256 % 256) as u8,
+    ]
 }

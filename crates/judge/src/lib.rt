@@ -1,16 +1,21 @@
 // Whether a whole run of point records goes, as document 01 orders it: by its pair of formats, by the lengths of source and
 // destination, and on its way down by each of its records.
 ghost use mathlib.Core.Path.{_≡_};
+ghost use mathlib.Core.Bool.{true};
 ghost use Prim.Native.Nat.{_*_, _≤_, _<_};
 ghost use lib.ListN.{length};
 ghost use Rattle.refusal.specs.Table.{wantedOf};
 ghost use Rattle.point.specs.Read.{pointOf};
 ghost use Rattle.strict.specs.Fit.{fitOf};
 ghost use Rattle.pairs.specs.Sound.{Sound, PlannedSound};
+ghost use Rattle.judge.specs.Core.{coreFit};
 ghost use Rattle.judge.specs.Judge.{judgeRun, judgedOf, verdictBy, oldVerdict, newVerdict};
+use angle::ScanAngle;
+use flags::Flags;
 use format::Format;
 use pairs::Plan;
 use pairs::Planned;
+use point::MaybeNir;
 use refusal::Refusal;
 use strict::Fit;
 
@@ -103,9 +108,9 @@ fn wanted(count: usize, length: usize) -> u64
     (count * length) as u64
 }
 
-// The first record that does not fit, with its number.
+// The first record that does not fit, with its number. Only new formats go down.
 fn judge_records(src: &[u8], format: Format, m: usize, count: usize) -> Judged
-    requires { ⌜ count * m ≤ length (now src) ⌝ }
+    requires { ⌜ (count * m ≤ length (now src)) × (22 ≤ m) × (format .«is_extended» ≡ true) ⌝ }
     ensures { λ r. ⌜ r ≡ judgeRun format m 1 count (now (src .entry)) ⌝ }
 {
     let mut at = 0;
@@ -125,11 +130,21 @@ fn judge_records(src: &[u8], format: Format, m: usize, count: usize) -> Judged
 
 // Whether a record fits, by the three fields that decide it.
 fn judge_record(src: &[u8], format: Format) -> Fit
+    requires { ⌜ (22 ≤ length (now src)) × (format .«is_extended» ≡ true) ⌝ }
     ensures { λ r. ⌜ r ≡ fitOf (pointOf format (now (src .entry))) ⌝ }
 {
-    strict::check_fields(
-        point::flags_in(src, format),
-        point::nir_in(src, format),
-        point::scan_angle_in(src, format),
-    )
+    judge_core(&src[..22], point::nir_in(src, format))
+}
+
+// The same by what stands before the time, and by the near infrared.
+fn judge_core(core: &[u8], nir: MaybeNir) -> Fit
+    ensures { λ r. ⌜ r ≡ coreFit (now (core .entry)) nir ⌝ }
+{
+    let flags = Flags::ThreeByte(
+        le::u8_at(core, 14),
+        le::u8_at(core, 15),
+        le::u8_at(core, 16),
+    );
+    let scan_angle = ScanAngle::Scaled(le::i16_at(core, 18));
+    strict::check_fields(flags, nir, scan_angle)
 }

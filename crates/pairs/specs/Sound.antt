@@ -1,13 +1,12 @@
 -- What a plan that is made is: sound.
 use Prim.Native.Nat.{ℕ, _<_}
-use mathlib.Core.Path.{_≡_, refl, ap}
+use mathlib.Core.Path.{_≡_, refl, ap, sym}
 use mathlib.Core.Bool.{Bool, true, false, cond}
 use native.Mathlib.Omega.{arith}
-use lib.Dec.{eqb, leb}
+use lib.Dec.{eqb}
 use Rattle.format.specs.declared.Format.{Format}
 use Rattle.format.specs.declared.FormatLen.{FormatLen}
 use Rattle.format.specs.declared.FormatLen.the-variants as len
-use Rattle.format.specs.Codes.{coded}
 use Rattle.format.specs.Fields.{lenOf}
 use Rattle.format.specs.Laws.{record-sum, len-is}
 use Rattle.pairs.specs.declared.Pair.{Pair}
@@ -15,18 +14,23 @@ use Rattle.pairs.specs.declared.Pair.the-variants.{Formats, None}
 use Rattle.pairs.specs.declared.Plan.{Plan}
 use Rattle.pairs.specs.declared.Planned.{Planned}
 use Rattle.pairs.specs.declared.Planned.the-variants as planned
-use Rattle.pairs.specs.Pairs.{formatWith, pairOf, oldPair, newPair, lengthsOf, plannedBy}
+use Rattle.pairs.specs.Pairs.{oldPair, newPair, lengthsOf, plannedBy}
+use Rattle.pairs.specs.Paired.{Mates, six-one, seven-three, eight-three, nine-four, ten-five}
 
--- the lengths are the formats', the extra bytes are as many on both sides, and what is upgraded becomes extended
+-- the lengths are the formats', and the formats are a pair
 pub record Sound (up : Bool) (p : Plan) : Type 0 where
   pub from : lenOf (p .source) ≡ len.Is (p .«source_length»)
   pub into : lenOf (p .target) ≡ len.Is (p .«target_length»)
-  pub extra : p .source .«extra_bytes» ≡ p .target .«extra_bytes»
-  pub above : up ≡ true → p .target .«is_extended» ≡ true
+  pub mates : Mates up (p .source) (p .target)
 
--- a pair has as many extra bytes on both sides, and what is upgraded becomes extended
+-- so the extra bytes are as many on both sides
+pub same-extra : (up : Bool) (a b : Format) → Mates up a b → a .«extra_bytes» ≡ b .«extra_bytes»
+same-extra true a b m = sym (m .extra)
+same-extra false a b m = m .extra
+
+-- the formats that are found are a pair
 abbrev PairSound : Bool → Pair → Type 0
-PairSound up (Formats a b) = (a .«extra_bytes» ≡ b .«extra_bytes») × (up ≡ true → b .«is_extended» ≡ true)
+PairSound up (Formats a b) = Mates up a b
 PairSound up None = Unit
 
 -- what holds of two pairs holds of whichever is chosen
@@ -34,24 +38,19 @@ pub either : (Q : Pair → Type 0) (b : Bool) (x y : Pair) → Q x → Q y → Q
 either Q true x y h k = h
 either Q false x y h k = k
 
-pair-sound : (up : Bool) (source target extra : ℕ) → (up ≡ true → leb 6 target ≡ true) → PairSound up (pairOf source target extra)
-unfolding formatWith coded
-pair-sound up source target extra h = (refl, h)
-
 pub not-up : {A : Type 0} → _≡_ {A = Bool} false true → A
 not-up z = let y : _≡_ {A = ℕ} 0 1 = ap (λ (b : Bool). cond b 1 0) z in absurd (omega arith)
 
 old-sound : (n extra : ℕ) → PairSound false (oldPair n extra)
 unfolding oldPair
 old-sound n extra =
-    let down : (source target : ℕ) → PairSound false (pairOf source target extra) = λ source target. pair-sound false source target extra not-up in
-    either (PairSound false) (eqb n 6) _ _ (down 6 1) (either (PairSound false) (eqb n 7) _ _ (down 7 3) (either (PairSound false) (eqb n 8) _ _ (down 8 3) (either (PairSound false) (eqb n 9) _ _ (down 9 4) (either (PairSound false) (eqb n 10) _ None (down 10 5) tt))))
+    either (PairSound false) (eqb n 6) _ _ (six-one extra) (either (PairSound false) (eqb n 7) _ _ (seven-three extra) (either (PairSound false) (eqb n 8) _ _ (eight-three extra) (either (PairSound false) (eqb n 9) _ _ (nine-four extra) (either (PairSound false) (eqb n 10) _ None (ten-five extra) tt))))
 
 new-sound : (n extra : ℕ) → PairSound true (newPair n extra)
 unfolding newPair
 new-sound n extra =
-    either (PairSound true) (eqb n 1) _ _ (pair-sound true 1 6 extra (λ _. refl)) (either (PairSound true) (eqb n 3) _ _ (pair-sound true 3 7 extra (λ _. refl))
-    (either (PairSound true) (eqb n 4) _ _ (pair-sound true 4 9 extra (λ _. refl)) (either (PairSound true) (eqb n 5) _ None (pair-sound true 5 10 extra (λ _. refl)) tt)))
+    either (PairSound true) (eqb n 1) _ _ (six-one extra) (either (PairSound true) (eqb n 3) _ _ (seven-three extra)
+    (either (PairSound true) (eqb n 4) _ _ (nine-four extra) (either (PairSound true) (eqb n 5) _ None (ten-five extra) tt)))
 
 -- a plan that is made of a pair is sound
 plan-sound : (up : Bool) (format : ℕ) (pair : Pair) (p : Plan) → PairSound up pair → plannedBy format pair ≡ planned.Is p → Sound up p
@@ -60,7 +59,7 @@ plan-sound up format (Formats a b) p h = go (lenOf a) (lenOf b) refl refl
     go : (x y : FormatLen) → lenOf a ≡ x → lenOf b ≡ y → lengthsOf a b x y ≡ planned.Is p → Sound up p
     go (len.Is m) (len.Is n) f g e =
         let same : record { source = a; target = b; «source_length» = m; «target_length» = n } ≡ p = cc in
-        rw (← same) (record { from = f; into = g; extra = h .0; above = h .1 })
+        rw (← same) (record { from = f; into = g; mates = h })
     go (len.Is m) (len.Refused r) f g e = let z : _≡_ {A = ℕ} 0 1 = cc in absurd (omega arith)
     go (len.Refused r) y f g e = let z : _≡_ {A = ℕ} 0 1 = cc in absurd (omega arith)
 plan-sound up format None p h = λ e. let z : _≡_ {A = ℕ} 0 1 = cc in absurd (omega arith)

@@ -116,20 +116,7 @@ impl Point {
     }
 }
 
-// The fields that a strict conversion looks at, each alone, in the first bytes of s; a byte past the end counts as 0.
-
-pub fn flags_in(s: &[u8], format: Format) -> Flags
-    ensures { λ r. ⌜ r ≡ pointOf format (now (s .entry)) .flags ⌝ }
-{
-    flags_at(s, format.is_extended)
-}
-
-pub fn scan_angle_in(s: &[u8], format: Format) -> ScanAngle
-    ensures { λ r. ⌜ r ≡ pointOf format (now (s .entry)) .«scan_angle» ⌝ }
-{
-    angle_at(s, format.is_extended)
-}
-
+// The near infrared alone, in the first bytes of s; a byte past the end counts as 0.
 pub fn nir_in(s: &[u8], format: Format) -> MaybeNir
     ensures { λ r. ⌜ r ≡ pointOf format (now (s .entry)) .nir ⌝ }
 {

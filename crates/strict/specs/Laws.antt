@@ -11,7 +11,7 @@ use Rattle.flags.specs.declared.Flags.the-variants.{TwoByte, ThreeByte}
 use Rattle.flags.specs.declared.ScanDirection.the-variants.{RightToLeft, LeftToRight}
 use Rattle.flags.specs.declared.TwoBytes.the-variants.{Bytes}
 use Rattle.flags.specs.Readings.{returnNumberOf, numberOfReturnsOf, directionBit, edgeOf, classOf, syntheticOf, keyPointOf, withheldOf, overlapOf, channelOf}
-use Rattle.flags.specs.Bytes.{flag, oldFirst, oldSecond, oldBytesOf, twoBytesOf}
+use Rattle.flags.specs.Bytes.{oldFirst, oldSecond, oldBytesOf, twoBytesOf}
 use Rattle.strict.specs.declared.Fit.{Fit}
 use Rattle.strict.specs.declared.Fit.the-variants.{Fits, Refused}
 use Rattle.strict.specs.Fit.{overlapGoes, readingsFit, flagsFitOf}

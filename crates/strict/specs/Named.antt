@@ -31,6 +31,7 @@ use Rattle.point.specs.Read.{flagsAt, angleAt, nirAt, pointOf}
 use Rattle.strict.specs.declared.Fit.{Fit}
 use Rattle.strict.specs.declared.Fit.the-variants.{Fits, Refused}
 use Rattle.strict.specs.Fit.{firstOf, overlapGoes, readingsFit, flagsFitOf, nirFitOf, rankFits, scaledFitOf, angleFitOf, fitOf}
+use Rattle.pairs.specs.Sound.{not-up}
 use Rattle.strict.specs.Shown.{exactRank, nirNumber, Same, Never, Unshown, return-number, number-of-returns, class, channel, overlap, nir, angle}
 use Rattle.strict.specs.Laws.{not-refused, read-goes}
 use Rattle.strict.specs.Whole.{exact-fits}
@@ -64,9 +65,6 @@ module _ (old : Format) (is-old : old .«is_extended» ≡ false) (no-nir : old 
   last true x u e = not-refused why (sym e)
   last false x u e = named x (u refl) e
 
-  differ : {A : Type 0} → _≡_ {A = Bool} true false → A
-  differ e = let z : _≡_ {A = ℕ} 0 1 = cc in absurd (omega arith)
-
   -- a number above its limit is no number up to it
   large : (limit n : ℕ) → ltb limit n ≡ true → (m : ℕ) → m < suc limit → m ≡ n → ⊥
   large limit n t m h e = omega (arith, ltb-true limit n t)
@@ -83,7 +81,7 @@ module _ (old : Format) (is-old : old .«is_extended» ≡ false) (no-nir : old 
       none x y k rust standard =
           let low : y % 32 % 16 ≡ y % 16 = omega arith in
           let goes : overlapGoes (overlapOf (p .flags)) (y % 32) ≡ true = read-goes (y % 32) (overlapOf (p .flags)) (ap (λ (m : ℕ). eqb m 12) low ∙ rust) standard in
-          differ (sym (subst (λ (c : ℕ). overlapGoes (overlapOf (p .flags)) c ≡ true) k goes) ∙ t)
+          not-up (sym t ∙ subst (λ (c : ℕ). overlapGoes (overlapOf (p .flags)) c ≡ true) k goes)
 
   flags-named : flagsFitOf (p .flags) ≡ Refused why → Unshown old p why
   unfolding flagsFitOf readingsFit

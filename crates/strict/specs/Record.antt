@@ -1,5 +1,5 @@
 -- What an old record is read as, of a point that fits; and an old point brought up and written down again.
-use Prim.Native.Nat.{ℕ, _+_, _*_, _/_, _<_, _≤_}
+use Prim.Native.Nat.{ℕ, _*_, _/_, _<_, _≤_}
 use mathlib.Core.Path.{_≡_, refl, ap, sym, subst, _∙_}
 use mathlib.Core.Bool.{Bool, true, false, cond}
 use mathlib.Core.List.{List, _++_}
@@ -37,7 +37,8 @@ use Rattle.point_write.specs.Theorems.{read-then-written, read-is-held, written
 use Rattle.strict.specs.declared.Fit.the-variants.{Fits}
 use Rattle.strict.specs.Fit.{flagsFitOf, fitOf}
 use Rattle.strict.specs.Upgrade.{upgradedFlags, upgradedOld, upgradedOf}
-use Rattle.strict.specs.Shown.{Same, Paired, downImage, upImage}
+use Rattle.pairs.specs.Paired.{Paired}
+use Rattle.strict.specs.Shown.{Same, downImage, upImage}
 use Rattle.strict.specs.Made.{old-first, old-second}
 use Rattle.strict.specs.Laws.{fitting, bytes-of-fitting, fits-down}
 use Rattle.strict.specs.Whole.{fit-parts, angle-exact, nir-none}

@@ -2,7 +2,6 @@
 -- standard's both".
 use Prim.Native.Nat.{ℕ}
 use mathlib.Core.Path.{_≡_}
-use mathlib.Core.Bool.{true, false}
 use mathlib.Core.List.{List}
 use lib.IntN.{ℤ}
 use mir.Syntax.{w16}
@@ -87,16 +86,6 @@ pub data Unshown (old : Format) (p : Point) : Refusal → Type 0 where
   overlap : Never old (λ q. (classOf (q .flags) ≡ classOf (p .flags)) × (overlapOf (q .flags) ≡ overlapOf (p .flags)) × (standardOverlapOf (q .flags) ≡ overlapOf (p .flags))) → Unshown old p (Overlap (classOf (p .flags)))
   nir : Never old (λ q. nirNumber (q .nir) ≡ nirNumber (p .nir)) → Unshown old p (Nir (nirNumber (p .nir)))
   angle : Never old (λ q. q .«scan_angle» ≡ Rank (exactRank (p .«scan_angle»))) → Unshown old p (Angle (ofZ w16 (toScaled (p .«scan_angle»))))
-
--- a new format and the old one of its pair: the same but for their kind, the near infrared and nothing else
-pub record Paired (new old : Format) : Type 0 where
-  pub is-new : new .«is_extended» ≡ true
-  pub is-old : old .«is_extended» ≡ false
-  pub time : new .«has_gps_time» ≡ old .«has_gps_time»
-  pub color : new .«has_color» ≡ old .«has_color»
-  pub waveform : new .«has_waveform» ≡ old .«has_waveform»
-  pub no-nir : old .«has_nir» ≡ false
-  pub extra : new .«extra_bytes» ≡ old .«extra_bytes»
 
 -- the bytes that stand for the record s in the other format of a pair: its point's, and its extra bytes
 abbrev pub downImage : Format → Format → List ℕ → List ℕ

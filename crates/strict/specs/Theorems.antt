@@ -22,7 +22,8 @@ use Rattle.strict.specs.declared.Fit.{Fit}
 use Rattle.strict.specs.declared.Fit.the-variants.{Fits, Refused}
 use Rattle.strict.specs.Fit.{overlapGoes, readingsFit, flagsFitOf, rankFits, scaledFitOf, angleFitOf, fitOf}
 use Rattle.strict.specs.Upgrade.{upgradedFlags}
-use Rattle.strict.specs.Shown.{Same, Never, Unshown, Paired, downImage, upImage}
+use Rattle.pairs.specs.Paired.{Paired}
+use Rattle.strict.specs.Shown.{Same, Never, Unshown, downImage, upImage}
 use Rattle.strict.specs.Named.{refusal-named, unshown-never}
 use Rattle.strict.specs.Record.{image-same, image-back}
 

@@ -1,28 +1,109 @@
-use mathlib.Core.Path.{_≡_}
+-- The pieces of the image, one after the other.
+use Prim.Native.Nat.{ℕ, _≤_}
+use mathlib.Core.Path.{_≡_, ap, sym, _∙_}
+use mathlib.Core.Bool.{Bool, true, false, cond}
+use mathlib.Core.List.{List}
+use native.Mathlib.Omega.{arith}
 use borrow.Author.Needs.{needs}
-use lib.ListN.{length}
-use Rattle.format.specs.declared.FormatLen.the-variants.{Is}
-use Rattle.format.specs.Fields.{lenOf}
-use Rattle.convert.specs.Laws.{whole-read, image-laid}
+use lib.ListN.{length, take, length-drop}
+use lib.Seq.{sets, length-take-le}
+use Rattle.le.specs.Le.{Bytes}
+use Rattle.format.specs.declared.Format.{Format}
+use Rattle.format.specs.declared.Field.the-variants.{GpsTime}
+use Rattle.format.specs.Fields.{placeOf, recordBytes}
+use Rattle.format.specs.Laws.{len-is, record-sum, record-end}
+use Rattle.pairs.specs.Paired.{Mates}
+use Rattle.pairs.specs.Sound.{same-extra}
+use Rattle.convert.specs.Moved.{middleOf, restFrom, middle-goes}
+use Rattle.convert.specs.Laws.{image-laid}
+use Rattle.convert.proofs.Part.{kept-length}
 use Rattle.convert.proofs.write_record.Statement.{statement}
 use Rattle.convert.proofs.write_record.Tie as tie
 
--- the record is a whole one
-whole : (s : tie.Start) → lenOf (s .args .plan .source) ≡ Is (length (s .args .src .now))
-whole s = rw (s .pre .1) (s .pre .0 .from)
+-- both records are whole, and the source's is one of bytes
+module _ (s : tie.Start) where
+  size : recordBytes (s .args .plan .source) ≡ length (s .args .src .now)
+  size = sym (len-is (s .args .plan .source) (s .args .plan .«source_length») (s .pre .0 .from)) ∙ sym (s .pre .1)
+
+  room : recordBytes (s .args .plan .target) ≤ length (s .args .dst .now)
+  room = omega (arith, len-is (s .args .plan .target) (s .args .plan .«target_length») (s .pre .0 .into), s .pre .2)
+
+  front-there : length (take 14 (s .args .src .now)) ≡ 14
+  front-there = length-take-le 14 (s .args .src .now) (omega (arith, size, record-sum (s .args .plan .source)))
+
+is-bytes : (x : tie.After-shared-slice-known) → Bytes (x .before .args .src .now)
+is-bytes x k = omega (arith, x .shared-slice-known .given k)
+
+put-at-requires : tie.Need-put-at-requires
+put-at-requires c κs =
+    let front = c .before .before in
+    let s = front .before .before .before .before .before .before in
+    omega (arith, ap length (front .fourteen .ensures) ∙ front-there s, room s, record-sum (s .args .plan .target))
+
+-- what is written leaves the destination's length
+module _ (x : tie.After-put-at) where
+  abbrev known : tie.After-shared-slice-known
+  known = x .before .before .before .before .before .before .before .before
+
+  front-length : length (x .put-at .last .0) ≡ length (known .before .args .dst .now)
+  front-length = kept-length (known .before .args .dst .now) 0 (x .before .before .before .fourteen .result) (x .put-at .ensures)
+
+module _ (x : tie.After-write-middle) where
+  abbrev at-front : tie.After-put-at
+  at-front = x .before .before .before .before
+
+  middle-length : length (x .write-middle .last .1 .1 .0) ≡ length (known at-front .before .args .dst .now)
+  middle-length =
+      let a = known at-front .before .args in
+      kept-length (at-front .put-at .last .0) 14 (middleOf (a .up) (a .src .now)) (x .write-middle .ensures)
+      ∙ front-length at-front
+
+-- what stands before the time is there on both sides
+core-there : (up : Bool) (a b : Format) → Mates up a b → (m n : ℕ) → recordBytes a ≡ m → recordBytes b ≤ n → (cond up 20 22 ≤ m) × (cond up 22 20 ≤ n)
+core-there true a b mates m n e l = (omega (arith, record-sum a), omega (arith, record-sum b, ap {B = ℕ} (λ (c : Bool). cond c 2 0) (mates .is-new)))
+core-there false a b mates m n e l = (omega (arith, record-sum a, ap {B = ℕ} (λ (c : Bool). cond c 2 0) (mates .is-new)), omega (arith, record-sum b))
+
+write-middle-requires : tie.Need-write-middle-requires
+write-middle-requires c κs =
+    let x = c .before .before .before in
+    let s = known x .before in
+    let a = s .args in
+    let core = core-there (a .up) (a .plan .source) (a .plan .target) (s .pre .0 .mates) (length (a .src .now)) (length (a .dst .now)) (size s) (room s) in
+    (core .0, rw (front-length x) (core .1), middle-goes (a .up) (a .plan) (s .pre .0 .mates) (a .src .now) (is-bytes (known x)) (size s) (s .pre .3))
+
+-- both formats have the same pieces
+same-pieces : (up : Bool) (a b : Format) → Mates up a b → (b .«has_gps_time» ≡ a .«has_gps_time») × (b .«has_color» ≡ a .«has_color») × (b .«has_waveform» ≡ a .«has_waveform»)
+same-pieces true a b mates = (mates .time, mates .color, mates .waveform)
+same-pieces false a b mates = (sym (mates .time), sym (mates .color), sym (mates .waveform))
+
+move-rest-requires : tie.Need-move-rest-requires
+move-rest-requires c κs =
+    let x = c .before .before .before in
+    let s = known (at-front x) .before in
+    let a = s .args in
+    let same = same-pieces (a .up) (a .plan .source) (a .plan .target) (s .pre .0 .mates) in
+    let waveform = ap {B = ℕ} (λ (h : Bool). cond h 29 0) (same .2) in (
+      omega (arith, size s, record-end (a .plan .source)),
+      rw (middle-length x) (simp length-drop (omega (arith, size s, room s, record-end (a .plan .source), record-end (a .plan .target), waveform, same-extra (a .up) (a .plan .source) (a .plan .target) (s .pre .0 .mates)))),
+      same .0,
+      same .1,
+    )
 
 returns : tie.Need-returns
 returns c =
-    let written = c .before .before in
-    let extra = written .before .before in
-    let read = extra .before in
-    let s = read .before .before .before .before .before in
+    let rest = c .before .before in
+    let middle = rest .before .before .before .before in
+    let front = at-front middle in
+    let s = known front .before in
     let a = s .args in
-    image-laid (a .up) (a .plan) (s .pre .0) (a .src .now) (s .pre .1) (s .pre .3) (a .dst .now) (s .pre .2) (whole-read (a .plan .source) (a .src .now) (whole s))
-    (rw (extra .extra-bytes .ensures, read .read .ensures) at (written .write-to .ensures))
+    rest .move-rest .ensures
+    ∙ ap (λ (d : List ℕ). sets d (placeOf (a .plan .target) GpsTime) (restFrom (a .plan .source) (a .plan .target) (a .src .now))) (middle .write-middle .ensures
+    ∙ ap (λ (d : List ℕ). sets d 14 (middleOf (a .up) (a .src .now))) (front .put-at .ensures
+    ∙ ap (sets (a .dst .now) 0) (front .before .before .before .fourteen .ensures)))
+    ∙ image-laid (a .up) (a .plan) (s .pre .0) (a .src .now) (s .pre .1) (s .pre .3) (is-bytes (known front)) (a .dst .now) (s .pre .2)
 
 pub write-record-spec : {M : Type 1} → statement M
 write-record-spec =
     tie.close
     (tie.spec
-    (λ c κs. whole (c .before .before .before .before)) (λ c κs. search needs) (λ c κs. search needs) (λ c. search needs) returns)
+    (λ c. sym (front-there (c .before .before .before .before .before))) (λ c κs. front-there (c .before .before .before .before .before)) (λ c. search needs) put-at-requires write-middle-requires move-rest-requires (λ c. search needs) returns)

@@ -3,7 +3,8 @@ use Prim.Native.Nat.{_+_, _-_, _*_, _≤_}
 use mathlib.Core.Path.{_≡_}
 use native.Mathlib.Omega.{arith}
 use borrow.Author.Needs.{needs}
-use lib.ListN.{length, drop}
+use lib.ListN.{length, take, drop, length-drop}
+use lib.Seq.{length-take-le}
 use Rattle.lent.specs.Laws.{less-one}
 use Rattle.judge.specs.Judge.{judgeRun}
 use Rattle.judge.proofs.Turn.{judge-turn, none-left, first-number}
@@ -22,7 +23,17 @@ more : (c : tie.In-loop Inv-loop μ-loop) → c .before .loop .left * c .before 
 more c = less-one (c .before .loop .left) (c .before .before .before .args .m) (omega arith)
 
 loop-holds : tie.Need-loop-holds Inv-loop μ-loop
-loop-holds c = (omega arith, omega (arith, c .before .pre), first-number _ _ _ _)
+loop-holds c = (omega arith, omega (arith, c .before .pre .0), first-number _ _ _ _)
+
+-- the record is a whole one
+judge-record-requires : tie.Need-judge-record-requires Inv-loop μ-loop
+judge-record-requires c κs =
+    let l = c .before .before in
+    let s = l .before .before in
+    let a = s .args in
+    let cut : l .loop .at + a .m - l .loop .at ≡ a .m = omega arith in
+    let long : length (take (a .m) (drop (l .loop .at) (a .src .now))) ≡ a .m = length-take-le (a .m) (drop (l .loop .at) (a .src .now)) (simp length-drop (omega (arith, more (c .before), l .loop .inv .1))) in
+    (rw cut (omega (arith, long, s .pre .1)), s .pre .2)
 
 returns : tie.Need-returns Inv-loop μ-loop
 returns c =
@@ -54,5 +65,5 @@ judge-records-spec =
     (tie.spec
     Inv-loop μ-loop loop-holds
     (λ c. omega (arith, more c)) (λ c. search needs) (λ c. search needs) (λ c. omega (arith, more c))
-    (λ c κs. search needs) (λ c. search needs) (λ c. search needs) (λ c. omega arith) returns (λ c. search needs)
+    judge-record-requires (λ c. search needs) (λ c. search needs) (λ c. omega arith) returns (λ c. search needs)
     (λ c. omega (arith, more (c .before .before .before .before))) (λ c. search needs) (λ c. search needs) loop-again returns-2)
