@@ -14,6 +14,7 @@ use Rattle.point.specs.Read.{pointOf, fieldOf}
 use Rattle.strict.specs.declared.Fit.the-variants as fit
 use Rattle.strict.specs.Fit.{fitOf}
 use Rattle.strict.specs.Shown.{Same, Never, Unshown}
+use Rattle.strict.specs.First.{FirstField}
 use Rattle.pairs.specs.Pairs.{formatWith}
 
 -- "Pairs down: 6 to 1, 7 to 3, 8 to 3, 9 to 4, 10 to 5"
@@ -68,12 +69,12 @@ Enough source target extra count s d = (runLength source extra count ≤ length 
 abbrev pub AllFit : ℕ → ℕ → ℕ → List ℕ → Type 0
 AllFit code extra count s = (k : ℕ) → k < count → fitOf (pointAt code extra k s) ≡ fit.Fits
 
--- the record after k others is the first that does not fit, and `why` names the first of its fields that does not, in document 01's
--- order: no old record of the pair has what `why` names, and so none shows the same values
+-- the record after k others is the first that does not fit, and `why` names the first of its fields that does not (`FirstField`, in
+-- strict/specs/First.antt, has document 01's order): no old record of the pair has what `why` names, and so none shows the same values
 pub record FirstUnfit (new old extra count k : ℕ) (s : List ℕ) (why : Refusal) : Type 0 where
   pub within : k < count
   pub earlier-fit : AllFit new extra k s
-  pub first-field : fitOf (pointAt new extra k s) ≡ fit.Refused why
+  pub first-field : FirstField (pointAt new extra k s) why
   pub named : Unshown (formatWith old extra) (pointAt new extra k s) why
   pub not-shown : Never (formatWith old extra) (Same (pointAt new extra k s))
 

@@ -7,7 +7,7 @@ use lib.ListN.{length, drop}
 use lib.Seq.{drop-at}
 use Rattle.refusal.specs.declared.Refusal.{Refusal}
 use Rattle.le.specs.Le as le
-use Rattle.strict.specs.Theorems.{refused-only-then, no-old-record-shows-it}
+use Rattle.strict.specs.Theorems.{first-field-named, refused-only-then, no-old-record-shows-it}
 use Rattle.convert.specs.declared.Converted.the-variants as converted
 use Rattle.pairs.specs.Pairs.{formatWith}
 use Rattle.convert.specs.Run.{imagesOf, toOldOf}
@@ -50,7 +50,7 @@ module _ {new old : ℕ} (pair : Down new old) (extra count : ℕ) (s d : List �
       record {
         within = within;
         earlier-fit = before;
-        first-field = refused;
+        first-field = first-field-named _ why refused;
         named = refused-only-then _ _ paired _ why refused;
         not-shown = no-old-record-shows-it _ _ paired _ why refused;
       }

@@ -1,6 +1,6 @@
 -- When flags fit, what the old bytes then read, and that nothing else could be read.
 use Prim.Native.Nat.{ℕ, _%_, _≤_}
-use mathlib.Core.Path.{_≡_, refl, ap, sym, _∙_}
+use mathlib.Core.Path.{_≡_, refl, ap, sym, subst, _∙_}
 use mathlib.Core.Bool.{Bool, true, false, not, cond, _&&_}
 use native.Mathlib.Omega.{arith}
 use borrow.Author.Tests.{ltb-false, le-ltb, eqb-true, eqb-false, eq-eqb, ne-eqb}
@@ -26,6 +26,19 @@ pub only-fits : (t : Bool) (r : Refusal) → cond t Fits (Refused r) ≡ Fits �
 only-fits true r e = refl
 only-fits false r e = not-refused r e
 
+-- what holds of a refusal that a chain of tests ends in: it is a test's own, and those before it did not hold
+module _ (Q : Refusal → Type 0) (why : Refusal) where
+  named : (x : Refusal) → Q x → Refused x ≡ Refused why → Q why
+  named x q e = let same : x ≡ why = cc in subst Q same q
+
+  pub past : (t : Bool) (x : Refusal) (y : Fit) → (t ≡ true → Q x) → (t ≡ false → y ≡ Refused why → Q why) → cond t (Refused x) y ≡ Refused why → Q why
+  past true x y u v e = named x (u refl) e
+  past false x y u v e = v refl e
+
+  pub last : (t : Bool) (x : Refusal) → (t ≡ false → Q x) → cond t Fits (Refused x) ≡ Refused why → Q why
+  last true x u e = not-refused why (sym e)
+  last false x u e = named x (u refl) e
+
 -- what the tests of five readings say together
 pub record Fitting (returnNumber returns class channel : ℕ) (overlap : Bool) : Type 0 where
   pub return-number : returnNumber ≤ 7
@@ -38,10 +51,10 @@ module _ (r n k c : ℕ) (o : Bool) where
   pub fits-fitting : readingsFit r n k c o ≡ Fits → Fitting r n k c o
   unfolding readingsFit
   fits-fitting e =
-      let one = past (ltb 7 r) _ _ e in
-      let two = past (ltb 7 n) _ _ (one .1) in
-      let three = past (ltb 31 k) _ _ (two .1) in
-      let four = past (ltb 0 c) _ _ (three .1) in
+      let one = passed (ltb 7 r) _ _ e in
+      let two = passed (ltb 7 n) _ _ (one .1) in
+      let three = passed (ltb 31 k) _ _ (two .1) in
+      let four = passed (ltb 0 c) _ _ (three .1) in
       record {
         return-number = ltb-false 7 r (one .0);
         number-of-returns = ltb-false 7 n (two .0);
@@ -50,9 +63,9 @@ module _ (r n k c : ℕ) (o : Bool) where
         goes = only-fits (overlapGoes o k) _ (four .1);
       }
     where
-      past : (t : Bool) (x : Refusal) (y : Fit) → cond t (Refused x) y ≡ Fits → (t ≡ false) × (y ≡ Fits)
-      past true x y e = not-refused x e
-      past false x y e = (refl, e)
+      passed : (t : Bool) (x : Refusal) (y : Fit) → cond t (Refused x) y ≡ Fits → (t ≡ false) × (y ≡ Fits)
+      passed true x y e = not-refused x e
+      passed false x y e = (refl, e)
 
   pub fitting-fits : Fitting r n k c o → readingsFit r n k c o ≡ Fits
   unfolding readingsFit

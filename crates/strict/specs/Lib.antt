@@ -4,6 +4,7 @@ pub mod Shown
 pub mod Made
 pub mod Laws
 pub mod Whole
+pub mod First
 pub mod Named
 pub mod Back
 pub mod Record

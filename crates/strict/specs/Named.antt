@@ -1,7 +1,7 @@
 -- The field that a refusal names is one that no old record can show.
 use Prim.Native.Nat.{ℕ, suc, _/_, _%_, _<_}
 use mathlib.Core.Path.{_≡_, refl, ap, sym, subst, _∙_}
-use mathlib.Core.Bool.{Bool, true, false, cond}
+use mathlib.Core.Bool.{true, false}
 use mathlib.Core.List.{List}
 use native.Mathlib.Omega.{arith}
 use borrow.Author.Tests.{ltb-true, eqb-false}
@@ -33,7 +33,7 @@ use Rattle.strict.specs.declared.Fit.the-variants.{Fits, Refused}
 use Rattle.strict.specs.Fit.{firstOf, overlapGoes, readingsFit, flagsFitOf, nirFitOf, rankFits, scaledFitOf, angleFitOf, fitOf}
 use Rattle.pairs.specs.Sound.{not-up}
 use Rattle.strict.specs.Shown.{exactRank, nirNumber, Same, Never, Unshown, return-number, number-of-returns, class, channel, overlap, nir, angle}
-use Rattle.strict.specs.Laws.{not-refused, read-goes}
+use Rattle.strict.specs.Laws.{not-refused, past, last, read-goes}
 use Rattle.strict.specs.Whole.{exact-fits}
 
 -- what an old record says of flags, near infrared and angle
@@ -52,19 +52,8 @@ module _ (old : Format) (is-old : old .«is_extended» ≡ false) (no-nir : old 
       let at = placeOf old AngleField in
       (toZ w8 (num 1 at t), toZ-fits w8 (num 1 at t) (record { fits = num-lt 1 t at bytes }), rw is-old)
 
--- what one test of a chain leaves
+-- what each test of the chain names
 module _ (old : Format) (is-old : old .«is_extended» ≡ false) (no-nir : old .«has_nir» ≡ false) (p : Point) (why : Refusal) where
-  named : (x : Refusal) → Unshown old p x → Refused x ≡ Refused why → Unshown old p why
-  named x u e = let same : x ≡ why = cc in subst (λ (r : Refusal). Unshown old p r) same u
-
-  past : (t : Bool) (x : Refusal) (y : Fit) → (t ≡ true → Unshown old p x) → (y ≡ Refused why → Unshown old p why) → cond t (Refused x) y ≡ Refused why → Unshown old p why
-  past true x y u v e = named x (u refl) e
-  past false x y u v e = v e
-
-  last : (t : Bool) (x : Refusal) → (t ≡ false → Unshown old p x) → cond t Fits (Refused x) ≡ Refused why → Unshown old p why
-  last true x u e = not-refused why (sym e)
-  last false x u e = named x (u refl) e
-
   -- a number above its limit is no number up to it
   large : (limit n : ℕ) → ltb limit n ≡ true → (m : ℕ) → m < suc limit → m ≡ n → ⊥
   large limit n t m h e = omega (arith, ltb-true limit n t)
@@ -87,22 +76,22 @@ module _ (old : Format) (is-old : old .«is_extended» ≡ false) (no-nir : old 
   unfolding flagsFitOf readingsFit
   flags-named =
       let f = p .flags in
-      past (ltb 7 (returnNumberOf f)) _ _ (λ t. return-number (never (λ g. returnNumberOf g ≡ returnNumberOf f) (λ x y. large 7 (returnNumberOf f) t (x % 8) (omega arith))))
-      (past (ltb 7 (numberOfReturnsOf f)) _ _ (λ t. number-of-returns (never (λ g. numberOfReturnsOf g ≡ numberOfReturnsOf f) (λ x y. large 7 (numberOfReturnsOf f) t (x / 8 % 8) (omega arith))))
-      (past (ltb 31 (classOf f)) _ _ (λ t. class (never (λ g. classOf g ≡ classOf f) (λ x y. large 31 (classOf f) t (y % 32) (omega arith))))
-      (past (ltb 0 (channelOf f)) _ _ (λ t. channel (never (λ g. channelOf g ≡ channelOf f) (λ x y. large 0 (channelOf f) t 0 (omega arith))))
-      (last (overlapGoes (overlapOf f) (classOf f)) _ overlap-named))))
+      past (Unshown old p) why (ltb 7 (returnNumberOf f)) _ _ (λ t. return-number (never (λ g. returnNumberOf g ≡ returnNumberOf f) (λ x y. large 7 (returnNumberOf f) t (x % 8) (omega arith))))
+      (λ _. past (Unshown old p) why (ltb 7 (numberOfReturnsOf f)) _ _ (λ t. number-of-returns (never (λ g. numberOfReturnsOf g ≡ numberOfReturnsOf f) (λ x y. large 7 (numberOfReturnsOf f) t (x / 8 % 8) (omega arith))))
+      (λ _. past (Unshown old p) why (ltb 31 (classOf f)) _ _ (λ t. class (never (λ g. classOf g ≡ classOf f) (λ x y. large 31 (classOf f) t (y % 32) (omega arith))))
+      (λ _. past (Unshown old p) why (ltb 0 (channelOf f)) _ _ (λ t. channel (never (λ g. channelOf g ≡ channelOf f) (λ x y. large 0 (channelOf f) t 0 (omega arith))))
+      (λ _. last (Unshown old p) why (overlapGoes (overlapOf f) (classOf f)) _ overlap-named))))
 
   nir-named : (n : MaybeNir) → p .nir ≡ n → nirFitOf n ≡ Refused why → Unshown old p why
   nir-named (Some n) is e =
       let same : nirNumber (p .nir) ≡ n = ap nirNumber is in
-      last (eqb n 0) (Nir n) (λ t. subst (λ (m : ℕ). Unshown old p (Nir m)) same (nir (λ b _ z. eqb-false n 0 t (sym same ∙ sym z ∙ old-nir old is-old no-nir b)))) e
+      last (Unshown old p) why (eqb n 0) (Nir n) (λ t. subst (λ (m : ℕ). Unshown old p (Nir m)) same (nir (λ b _ z. eqb-false n 0 t (sym same ∙ sym z ∙ old-nir old is-old no-nir b)))) e
   nir-named None is e = not-refused why (sym e)
 
   angle-named : (a : ScanAngle) → p .«scan_angle» ≡ a → angleFitOf a ≡ Refused why → Unshown old p why
   unfolding scaledFitOf
   angle-named (Rank r) is e = not-refused why (sym e)
-  angle-named (Scaled n) is e = last (rankFits (nearestRank n)) _ (λ t. subst (λ (a : ScanAngle). Unshown old p (Angle (ofZ w16 (toScaled a)))) is (angle none)) e
+  angle-named (Scaled n) is e = last (Unshown old p) why (rankFits (nearestRank n)) _ (λ t. subst (λ (a : ScanAngle). Unshown old p (Angle (ofZ w16 (toScaled a)))) is (angle none)) e
     where
       none : Never old (λ q. q .«scan_angle» ≡ Rank (exactRank (p .«scan_angle»)))
       none t bytes same =

@@ -24,6 +24,7 @@ use Rattle.strict.specs.Fit.{overlapGoes, readingsFit, flagsFitOf, rankF
 use Rattle.strict.specs.Upgrade.{upgradedFlags}
 use Rattle.pairs.specs.Paired.{Paired}
 use Rattle.strict.specs.Shown.{Same, Never, Unshown, downImage, upImage}
+use Rattle.strict.specs.First.{FirstField, first-named}
 use Rattle.strict.specs.Named.{refusal-named, unshown-never}
 use Rattle.strict.specs.Record.{image-same, image-back}
 
@@ -37,8 +38,11 @@ module _ (new old : Format) (pair : Paired new old) (s : List ℕ) (all : le.Byt
   pub up-and-down : recordBytes old ≤ length s → (classOf (pointOf old s .flags) ≡ 28 → ⊥) → (fitOf (pointOf new (upImage old new s ++ rest)) ≡ Fits) × (downImage new old (upImage old new s ++ rest) ≡ take (recordBytes old) s)
   up-and-down = image-back new old pair s all rest
 
--- "Otherwise the .. first field that doesn't fit [is] named; it is refused only then": what is named no old record of the pair has,
--- so that none shows the same values.
+-- "Otherwise the .. first field that doesn't fit [is] named": it does not fit, and all before it in document 01's order do.
+pub first-field-named : (p : Point) (why : Refusal) → fitOf p ≡ Refused why → FirstField p why
+first-field-named = first-named
+
+-- "It is refused only then": what is named no old record of the pair has, so that none shows the same values.
 module _ (new old : Format) (pair : Paired new old) (p : Point) where
   pub refused-only-then : (why : Refusal) → fitOf p ≡ Refused why → Unshown old p why
   refused-only-then = refusal-named old (pair .is-old) (pair .no-nir) p
