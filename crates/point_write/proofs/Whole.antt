@@ -6,20 +6,13 @@ use native.Mathlib.Omega.{arith}
 use native.Mathlib.Nat.{zero-add}
 use lib.ListN.{length, drop, length-append}
 use lib.Seq.{sets, length-sets}
-use Rattle.lent.specs.declared.Wrote.{Wrote}
-use Rattle.lent.specs.Front.{frontOf}
-use Rattle.lent.specs.Laws.{front, whole, sets-append}
+use Rattle.lent.specs.Laws.{whole, sets-append}
 
-module _ (d core rest e : List ℕ) (k n : ℕ) (r : Wrote) (kl : length core ≡ k) (nl : n ≡ k + length rest) (fits : n ≤ length d) (p : (r, e) ≡ frontOf core d) where
-  first : e ≡ sets d 0 core
-  first =
-      let l : length core ≤ length d = omega arith in
-      ap (λ (x : Wrote × List ℕ). x .1) (p ∙ front core d l) ∙ sym (whole d core (length core) refl l)
-
+module _ (d core rest e : List ℕ) (k n : ℕ) (kl : length core ≡ k) (nl : n ≡ k + length rest) (fits : n ≤ length d) (p : e ≡ sets d 0 core) where
   pub rest-fits : k + length rest ≤ length e
-  rest-fits = omega (arith, ap length first, length-sets d 0 core)
+  rest-fits = omega (arith, ap length p, length-sets d 0 core)
 
   pub made : (x : List ℕ) → x ≡ sets e k rest → x ≡ (core ++ rest) ++ drop n d
   made x q =
-      q ∙ ap (λ (l : List ℕ). sets l k rest) first ∙ ap (λ (j : ℕ). sets (sets d 0 core) j rest) (sym kl ∙ sym (zero-add (length core)))
+      q ∙ ap (λ (l : List ℕ). sets l k rest) p ∙ ap (λ (j : ℕ). sets (sets d 0 core) j rest) (sym kl ∙ sym (zero-add (length core)))
       ∙ sym (sets-append d core rest 0) ∙ whole d (core ++ rest) n (omega (arith, length-append core rest)) fits

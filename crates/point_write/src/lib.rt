@@ -42,7 +42,7 @@ fn write_sized(point: Point, extra: &[u8], dst: &mut [u8], format: Format, n: us
     }
     if format.is_extended {
         let core = point_bytes::extended_core(point);
-        lent::put(dst, &core);
+        put_at(dst, 0, &core);
         write_rest(point, extra, dst, format, 22);
         return Wrote::Bytes(n);
     }
@@ -50,7 +50,7 @@ fn write_sized(point: Point, extra: &[u8], dst: &mut [u8], format: Format, n: us
     match flags.to_two_bytes() {
         TwoBytes::Bytes(a, b) => {
             let core = point_bytes::legacy_core(point, a, b);
-            lent::put(dst, &core);
+            put_at(dst, 0, &core);
             write_rest(point, extra, dst, format, 20);
             Wrote::Bytes(n)
         }
@@ -71,7 +71,9 @@ fn write_rest(point: Point, extra: &[u8], dst: &mut [u8], format: Format, at: us
     let waveform_at = put_nir(dst, nir_at, format.has_nir, of_nir);
     let of_waveform = point.waveform;
     let extra_at = put_waveform(dst, waveform_at, format.has_waveform, of_waveform);
-    lent::put(&mut dst[extra_at..], extra);
+    if extra.len() != 0 {
+        lent::put(&mut dst[extra_at..], extra);
+    }
 }
 
 // A piece at place at, where the format has it; the place after it.

@@ -7,7 +7,7 @@ use borrow.Author.Needs.{needs}
 use borrow.Author.Tests.{eq-eqb, ne-eqb, lt-ltb}
 use native.Mathlib.Omega.{arith}
 use lib.ListN.{length, drop}
-use Rattle.lent.specs.Front.{frontOf}
+use lib.Seq.{sets}
 use Rattle.lent.specs.declared.Wrote.the-variants.{Bytes}
 use Rattle.format.specs.declared.Field.the-variants.{GpsTime}
 use Rattle.format.specs.Fields.{restOf, placeOf}
@@ -40,20 +40,36 @@ returns-2 c =
     let a = c .before .before .before .before .before .args in
     rw (eq-eqb _ _ (c .before .if1 .left), lt-ltb (length (a .dst .now)) (a .n) (omega arith))
 
+-- the core has room
+put-at-requires : tie.Need-put-at-requires
+put-at-requires c κs =
+    let x = c .before .before in
+    let e = x .before .before .before in
+    let a = e .before .before .before .before .args in
+    omega (arith, ap length (x .extended-core .ensures) ∙ core-length (a .format) (a .point) (a .extra .now), parts e true (x .before .if3 .taken), x .before .before .if2 .left)
+
+put-at-requires-2 : tie.Need-put-at-requires-2
+put-at-requires-2 c κs =
+    let x = c .before .before in
+    let b = x .before .before in
+    let e = b .before .before .before .before .before in
+    let a = e .before .before .before .before .args in
+    omega (arith, ap length (x .legacy-core .ensures) ∙ legacy-core-length (a .format) (a .point) (a .extra .now) (b .a .given .0 .0) (b .a .given .0 .1 .0), parts e false (b .before .before .before .if3 .left), b .before .before .before .before .if2 .left)
+
 -- extended: the core is in place, and the rest fits behind it
-module _ (c : tie.After-put) where
+module _ (c : tie.After-put-at) where
   abbrev begun : tie.Start
   begun = c .before .before .before .before .before .before .before .before .before .before
 
-  put-core : (c .put .result, c .put .last .0) ≡ frontOf (coreOf (begun .args .point)) (begun .args .dst .now)
-  put-core = rw (c .before .before .before .extended-core .ensures) at (c .put .ensures)
+  put-core : c .put-at .last .0 ≡ sets (begun .args .dst .now) 0 (coreOf (begun .args .point))
+  put-core = c .put-at .ensures .1 ∙ ap (sets (begun .args .dst .now) 0) (c .before .before .before .extended-core .ensures)
 
 write-rest-requires : tie.Need-write-rest-requires
 write-rest-requires c κs =
     let q = c .before .before .before in
     let s = q .before .before .before .before .before .before .before .before .before .before in
     let a = s .args in
-    rest-fits (a .dst .now) (coreOf (a .point)) (rest s) (q .put .last .0) 22 (a .n) (q .put .result)
+    rest-fits (a .dst .now) (coreOf (a .point)) (rest s) (q .put-at .last .0) 22 (a .n)
     (core-length (a .format) (a .point) (a .extra .now)) (parts (q .before .before .before .before .before .before) true (q .before .before .before .before .if3 .taken)) (q .before .before .before .before .before .if2 .left) (put-core q)
 
 returns-3 : tie.Need-returns-3
@@ -61,13 +77,13 @@ returns-3 c =
     let q = c .before .before .before .before .before .before in
     let s = q .before .before .before .before .before .before .before .before .before .before in
     let a = s .args in
-    let x = made (a .dst .now) (coreOf (a .point)) (rest s) (q .put .last .0) 22 (a .n) (q .put .result)
+    let x = made (a .dst .now) (coreOf (a .point)) (rest s) (q .put-at .last .0) 22 (a .n)
     (core-length (a .format) (a .point) (a .extra .now)) (parts (q .before .before .before .before .before .before) true (q .before .before .before .before .if3 .taken)) (q .before .before .before .before .before .if2 .left) (put-core q) _ (c .before .before .write-rest .ensures) in
     ap (λ (l : List ℕ). (Bytes (a .n), l)) (x ∙ ap (λ (l : List ℕ). l ++ drop (a .n) (a .dst .now)) (sym (extended-is (a .format) (a .point) (a .extra .now) (q .before .before .before .before .if3 .taken))))
     ∙ sym (sized-extended (a .format) (a .point) (a .extra .now) (a .n) (a .dst .now) (q .before .before .before .before .before .before .if1 .left) (q .before .before .before .before .before .if2 .left) (q .before .before .before .before .if3 .taken))
 
-put-legacy : (c : tie.After-put2) → (c .put2 .result, c .put2 .last .0) ≡ frontOf (legacyCoreOf (c .before .before .before .before .before .before .before .before .before .before .before .before .before .before .args .point) (c .before .before .before .before .before .a .given .0 .0) (c .before .before .before .before .before .a .given .0 .1 .0)) (c .before .before .before .before .before .before .before .before .before .before .before .before .before .before .args .dst .now)
-put-legacy c = rw (c .before .before .before .legacy-core .ensures) at (c .put2 .ensures)
+put-legacy : (c : tie.After-put-at2) → c .put-at2 .last .0 ≡ sets (c .before .before .before .before .before .before .before .before .before .before .before .before .before .before .args .dst .now) 0 (legacyCoreOf (c .before .before .before .before .before .before .before .before .before .before .before .before .before .before .args .point) (c .before .before .before .before .before .a .given .0 .0) (c .before .before .before .before .before .a .given .0 .1 .0))
+put-legacy c = c .put-at2 .ensures .1 ∙ ap (sets (c .before .before .before .before .before .before .before .before .before .before .before .before .before .before .args .dst .now) 0) (c .before .before .before .legacy-core .ensures)
 
 write-rest-requires-2 : tie.Need-write-rest-requires-2
 write-rest-requires-2 c κs =
@@ -75,7 +91,7 @@ write-rest-requires-2 c κs =
     let s = q .before .before .before .before .before .before .before .before .before .before .before .before .before .before in
     let a = s .args in
     let v = q .before .before .before .before .before .a .given .0 in
-    rest-fits (a .dst .now) (legacyCoreOf (a .point) (v .0) (v .1 .0)) (rest s) (q .put2 .last .0) 20 (a .n) (q .put2 .result)
+    rest-fits (a .dst .now) (legacyCoreOf (a .point) (v .0) (v .1 .0)) (rest s) (q .put-at2 .last .0) 20 (a .n)
     (legacy-core-length (a .format) (a .point) (a .extra .now) (v .0) (v .1 .0)) (parts (q .before .before .before .before .before .before .before .before .before .before) false (q .before .before .before .before .before .before .before .before .if3 .left)) (q .before .before .before .before .before .before .before .before .before .if2 .left) (put-legacy q)
 
 returns-4 : tie.Need-returns-4
@@ -86,7 +102,7 @@ returns-4 c =
     let v = q .before .before .before .before .before .a .given .0 in
     let legacy = q .before .before .before .before .before .before .before .before .if3 .left in
     let t = sym (q .before .before .before .before .before .before .before .to-two-bytes .ensures) ∙ q .before .before .before .before .before .a .given .1 in
-    let x = made (a .dst .now) (legacyCoreOf (a .point) (v .0) (v .1 .0)) (rest s) (q .put2 .last .0) 20 (a .n) (q .put2 .result)
+    let x = made (a .dst .now) (legacyCoreOf (a .point) (v .0) (v .1 .0)) (rest s) (q .put-at2 .last .0) 20 (a .n)
     (legacy-core-length (a .format) (a .point) (a .extra .now) (v .0) (v .1 .0)) (parts (q .before .before .before .before .before .before .before .before .before .before) false legacy) (q .before .before .before .before .before .before .before .before .before .if2 .left) (put-legacy q) _ (c .before .before .write-rest2 .ensures) in
     ap (λ (l : List ℕ). (Bytes (a .n), l)) (x ∙ ap (λ (l : List ℕ). l ++ drop (a .n) (a .dst .now)) (sym (legacy-is (a .format) (a .point) (a .extra .now) (v .0) (v .1 .0) legacy t)))
     ∙ ap (flaggedOf (a .format) (a .point) (a .extra .now) (a .n) (a .dst .now)) (sym t)
@@ -103,4 +119,4 @@ pub write-sized-spec : {M : Type 1} → statement M
 write-sized-spec =
     tie.close
     (tie.spec
-    (λ c. search needs) returns returns-2 (λ c κs. search needs) (λ c. search needs) (λ c κs. search needs) write-rest-requires (λ c. search needs) returns-3 (λ c κs. search needs) (λ c. search needs) (λ c κs. search needs) (λ c. search needs) (λ c κs. search needs) write-rest-requires-2 (λ c. search needs) (λ c. search needs) returns-4 returns-5)
+    (λ c. search needs) returns returns-2 (λ c κs. search needs) (λ c. search needs) put-at-requires write-rest-requires (λ c. search needs) returns-3 (λ c κs. search needs) (λ c. search needs) (λ c κs. search needs) (λ c. search needs) put-at-requires-2 write-rest-requires-2 (λ c. search needs) (λ c. search needs) returns-4 returns-5)
