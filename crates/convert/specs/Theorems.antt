@@ -29,8 +29,8 @@ module _ {new old : ℕ} (pair : Down new old) (extra count : ℕ) (s d : List �
       → (n ≡ runLength old extra count) × (drop n e ≡ drop n d)
   past-the-run = rest-stays pair extra count s d
 
-  -- "Otherwise the first record and first field that doesn't fit are named": the record is there, those before it fit, and what is named
-  -- does not fit, since no old record of the pair shows the same values.
+  -- "Otherwise the first record and first field that doesn't fit are named": the record is there, those before it fit, the fields before
+  -- the one that is named fit too, and what is named does not, since no old record of the pair shows the same values.
   pub refused-record :
       {why : Refusal} {k : ℕ} {e : List ℕ} → toOldOf new extra count s d ≡ (Refused why (suc k), e)
       → FirstUnfit new old extra count k s why
