@@ -270,8 +270,8 @@ fn waveform_at(s: &[u8], has: bool, at: usize) -> MaybeWaveform
 }
 
 impl Waveform {
-    // The waveform in the first bytes of s.
-    fn read_from(s: &[u8]) -> Waveform
+    // The waveform in the first bytes of s; a byte past the end counts as 0.
+    pub fn read_from(s: &[u8]) -> Waveform
         ensures { λ r. ⌜ r ≡ waveformAt 0 (now (s .entry)) ⌝ }
     {
         let location = le::f32_at(s, 13);

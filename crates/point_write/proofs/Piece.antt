@@ -1,10 +1,13 @@
--- A piece that goes into a part of its own length.
+-- A piece of a record, cut out of it or put into a part of its own length.
 use Prim.Native.Nat.{ℕ, _+_, _-_, _≤_}
 use mathlib.Core.Path.{_≡_, ap, _∙_}
+use mathlib.Core.Bool.{Bool, true, cond}
 use mathlib.Core.List.{List, _++_, append-assoc, append-nil}
 use native.Mathlib.Omega.{arith}
 use lib.ListN.{length, take, drop, length-drop, drop-of-length-le}
 use lib.Seq.{sets, sets-eq, length-take-le, drop-drop}
+use Rattle.le.specs.Le.{Bytes}
+use Rattle.le.specs.Laws.{bytes-take, bytes-drop}
 use Rattle.lent.specs.declared.Wrote.{Wrote}
 use Rattle.lent.specs.Front.{frontOf}
 use Rattle.lent.specs.Laws.{front}
@@ -18,3 +21,29 @@ exact d bs ys at r h e =
     let none : length (take (length bs) (drop at d)) ≤ length bs = omega (arith, part) in
     let y : ys ≡ bs ++ drop (length bs) (take (length bs) (drop at d)) = ap (λ (p : Wrote × List ℕ). p .1) (rw n at e ∙ front bs (take (length bs) (drop at d)) (omega (arith, part))) in
     rw (sets-eq bs d at h, n, y, drop-of-length-le (take (length bs) (drop at d)) none, append-nil, drop-drop, append-assoc)
+
+-- the n bytes of s from a place on, where the format has them
+module _ (has : Bool) (is : has ≡ true) (n : ℕ) (s : List ℕ) (at : ℕ) (within : at + cond has n 0 ≤ length s) where
+  pub there : at + n ≤ length s
+  there = omega (arith, ap {B = ℕ} (λ (b : Bool). cond b n 0) is)
+
+  abbrev pub cut : List ℕ
+  cut = take (at + n - at) (drop at s)
+
+  pub cut-is : cut ≡ take (cond has n 0) (drop at s)
+  cut-is = let e : at + n - at ≡ n = omega arith in rw (e, is)
+
+  pub cut-length : length cut ≡ n
+  cut-length =
+      let e : at + n - at ≡ n = omega arith in
+      rw e (length-take-le n (drop at s) (simp length-drop (omega (arith, there))))
+
+  pub cut-bytes : Bytes s → Bytes cut
+  cut-bytes all = bytes-take (at + n - at) (drop at s) (bytes-drop at s all)
+
+  -- written as it was cut, it has room where the destination has the record's length, and is laid there
+  pub cut-fits : (d : List ℕ) {r : List ℕ} → length d ≡ length s → r ≡ cut → at + length r ≤ length d
+  cut-fits d same read = omega (arith, ap length read ∙ cut-length, there)
+
+  pub cut-laid : (d : List ℕ) (to : ℕ) {r e : List ℕ} → r ≡ cut → e ≡ sets d to r → e ≡ sets d to (take (cond has n 0) (drop at s))
+  cut-laid d to read put = put ∙ ap (sets d to) (read ∙ cut-is)

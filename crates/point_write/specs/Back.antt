@@ -61,11 +61,11 @@ module _ (s : List ℕ) (all : Bytes s) where
   angle-back false at h = rw (ofZ-toZ w8 (num 1 at s) (num-fits w8 1 at refl)) (byte-back at h)
 
   -- what a format may lack, where it has it
-  time-back : (has : Bool) (at : ℕ) → has ≡ true → at + 8 ≤ length s → timeBytes (timeAt has at s) ≡ take 8 (drop at s)
+  pub time-back : (has : Bool) (at : ℕ) → has ≡ true → at + 8 ≤ length s → timeBytes (timeAt has at s) ≡ take 8 (drop at s)
   unfolding timeAt
   time-back has at e h = rw (e, f64-kept (num 8 at s) (num-lt 8 s at all)) (bytes-num 8 at s all h)
 
-  color-back : (has : Bool) (at : ℕ) → has ≡ true → at + 6 ≤ length s → colorBytes (colorAt has at s) ≡ take 6 (drop at s)
+  pub color-back : (has : Bool) (at : ℕ) → has ≡ true → at + 6 ≤ length s → colorBytes (colorAt has at s) ≡ take 6 (drop at s)
   unfolding colorAt
   color-back has at e h = rw e (span-num 2 (2 ∷ 2 ∷ []) at s all h)
 
@@ -77,7 +77,7 @@ module _ (s : List ℕ) (all : Bytes s) where
   unfolding f32Of
   f32-back at = pattern-kept binary32 (num 4 at s) (num-lt 4 s at all)
 
-  waveform-back : (has : Bool) (at : ℕ) → has ≡ true → at + 29 ≤ length s → waveformBytes (maybeWaveformAt has at s) ≡ take 29 (drop at s)
+  pub waveform-back : (has : Bool) (at : ℕ) → has ≡ true → at + 29 ≤ length s → waveformBytes (maybeWaveformAt has at s) ≡ take 29 (drop at s)
   unfolding maybeWaveformAt waveformAt
   waveform-back has at e h = rw e (simp f32-back (rw (byte-mod at) at (span-num 1 (8 ∷ 4 ∷ 4 ∷ 4 ∷ 4 ∷ 4 ∷ []) at s all h)))
 

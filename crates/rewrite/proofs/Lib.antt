@@ -1,3 +1,4 @@
 pub mod Laid
 pub mod Turn
 pub mod Answer
+pub mod Pieces
