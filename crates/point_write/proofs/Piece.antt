@@ -23,15 +23,19 @@ exact d bs ys at r h e =
     rw (sets-eq bs d at h, n, y, drop-of-length-le (take (length bs) (drop at d)) none, append-nil, drop-drop, append-assoc)
 
 -- the n bytes of s from a place on, where the format has them
-module _ (has : Bool) (is : has ≡ true) (n : ℕ) (s : List ℕ) (at : ℕ) (within : at + cond has n 0 ≤ length s) where
+pub record Piece (has : Bool) (n : ℕ) (s : List ℕ) (at : ℕ) : Type 0 where
+  pub is : has ≡ true
+  pub within : at + cond has n 0 ≤ length s
+
+module _ {has : Bool} {n : ℕ} {s : List ℕ} {at : ℕ} (p : Piece has n s at) where
   pub there : at + n ≤ length s
-  there = omega (arith, ap {B = ℕ} (λ (b : Bool). cond b n 0) is)
+  there = omega (arith, p .within, ap {B = ℕ} (λ (b : Bool). cond b n 0) (p .is))
 
   abbrev pub cut : List ℕ
   cut = take (at + n - at) (drop at s)
 
   pub cut-is : cut ≡ take (cond has n 0) (drop at s)
-  cut-is = let e : at + n - at ≡ n = omega arith in rw (e, is)
+  cut-is = let e : at + n - at ≡ n = omega arith in rw (e, p .is)
 
   pub cut-length : length cut ≡ n
   cut-length =
@@ -43,7 +47,7 @@ module _ (has : Bool) (is : has ≡ true) (n : ℕ) (s : List ℕ) (at : ℕ) (w
 
   -- written as it was cut, it has room where the destination has the record's length, and is laid there
   pub cut-fits : (d : List ℕ) {r : List ℕ} → length d ≡ length s → r ≡ cut → at + length r ≤ length d
-  cut-fits d same read = omega (arith, ap length read ∙ cut-length, there)
+  cut-fits d same read = omega (arith, ap length read ∙ cut-length, there, same)
 
   pub cut-laid : (d : List ℕ) (to : ℕ) {r e : List ℕ} → r ≡ cut → e ≡ sets d to r → e ≡ sets d to (take (cond has n 0) (drop at s))
   cut-laid d to read put = put ∙ ap (sets d to) (read ∙ cut-is)

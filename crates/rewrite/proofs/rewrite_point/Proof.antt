@@ -1,5 +1,5 @@
 -- Each piece is laid after the one before it.
-use Prim.Native.Nat.{ℕ, _-_, _≤_}
+use Prim.Native.Nat.{ℕ, _+_, _-_, _≤_}
 use mathlib.Core.Path.{_≡_, sym, ap, _∙_}
 use mathlib.Core.Bool.{cond}
 use mathlib.Core.List.{List, _++_}
@@ -34,6 +34,22 @@ module _ (p : tie.After-places-for) where
   core-place : length (take (p .places-for .result .«gps_time») (begun .args .dst .now)) ≡ p .places-for .result .«gps_time»
   core-place = length-take-le (p .places-for .result .«gps_time») (begun .args .dst .now) core-room
 
+  -- so much of the record is laid
+  abbrev LaidTo : ℕ → List ℕ → Type 0
+  LaidTo = Laid (begun .args .src .now) (begun .args .dst .now) (begun .pre .1)
+
+  kept : (at : ℕ) {e : List ℕ} → LaidTo at e → length e ≡ length (begun .args .src .now)
+  kept at l = laid-length (begun .args .src .now) (begun .args .dst .now) (begun .pre .1) at l
+
+  next : (at k to : ℕ) {e e' : List ℕ} → to ≡ at + k → to ≤ length (begun .args .src .now) → LaidTo at e → e' ≡ sets e at (take k (drop at (begun .args .src .now))) → LaidTo to e'
+  next at k to is fits l put = next-laid (begun .args .src .now) (begun .args .dst .now) (begun .pre .1) at k to is fits l put
+
+  -- all of it is what stands for it
+  same : {e : List ℕ} → LaidTo (length (begun .args .src .now)) e → e ≡ pointBack (begun .args .format) (begun .args .src .now)
+  same l =
+      all-laid (begun .args .src .now) (begun .args .dst .now) (begun .pre .1) l
+      ∙ sym (point-same (begun .args .format) (begun .args .src .now) (begun .pre .0) (λ k. omega (arith, p .before .before .shared-slice-known .given k)))
+
 rewrite-core-requires : tie.Need-rewrite-core-requires
 rewrite-core-requires c κs = let p = c .before .before in (core-length p ∙ follow p .time, core-place p ∙ sym (core-length p))
 
@@ -42,67 +58,77 @@ module _ (x : tie.After-rewrite-core) where
   abbrev core-at : tie.After-places-for
   core-at = x .before .before .before
 
-  core-laid : Laid (begun core-at .args .src .now) (begun core-at .args .dst .now) (begun core-at .pre .1) (core-at .places-for .result .«gps_time») (x .rewrite-core .last .1 .1 .0 ++ drop (core-at .places-for .result .«gps_time») (begun core-at .args .dst .now))
+  core-laid : LaidTo core-at (core-at .places-for .result .«gps_time») (x .rewrite-core .last .1 .1 .0 ++ drop (core-at .places-for .result .«gps_time») (begun core-at .args .dst .now))
   core-laid =
-      let s = begun core-at in
+      let a = begun core-at .args in
       let core = core-at .places-for .result .«gps_time» in
-      ap (λ (l : List ℕ). l ++ drop core (s .args .dst .now)) (x .rewrite-core .ensures)
-      ∙ sym (whole (s .args .dst .now) (take core (s .args .src .now)) core (core-length core-at) (core-room core-at))
+      ap (λ (l : List ℕ). l ++ drop core (a .dst .now)) (x .rewrite-core .ensures)
+      ∙ sym (whole (a .dst .now) (take core (a .src .now)) core (core-length core-at) (core-room core-at))
 
 module _ (x : tie.After-rewrite-time) where
   abbrev time-at : tie.After-places-for
   time-at = core-at (x .before .before .before .before)
 
-  time-laid : Laid (begun time-at .args .src .now) (begun time-at .args .dst .now) (begun time-at .pre .1) (time-at .places-for .result .color) (x .rewrite-time .last .1 .1 .1 .0)
+  time-laid : LaidTo time-at (time-at .places-for .result .color) (x .rewrite-time .last .1 .1 .1 .0)
   time-laid =
-      let s = begun time-at in
       let w = follow time-at in
-      next-laid (s .args .src .now) (s .args .dst .now) (s .pre .1) (time-at .places-for .result .«gps_time») (cond (s .args .format .«has_gps_time») 8 0) (time-at .places-for .result .color) (w .color) (omega (arith, w .nir, w .waveform, w .extra, w .ends)) (core-laid (x .before .before .before .before)) (x .rewrite-time .ensures)
+      next time-at (time-at .places-for .result .«gps_time») (cond (begun time-at .args .format .«has_gps_time») 8 0) (time-at .places-for .result .color) (w .color) (omega (arith, w .nir, w .waveform, w .extra, w .ends)) (core-laid (x .before .before .before .before)) (x .rewrite-time .ensures)
 
 module _ (x : tie.After-rewrite-color) where
   abbrev color-at : tie.After-places-for
   color-at = time-at (x .before .before .before .before .before .before)
 
-  color-laid : Laid (begun color-at .args .src .now) (begun color-at .args .dst .now) (begun color-at .pre .1) (color-at .places-for .result .nir) (x .rewrite-color .last .1 .1 .1 .0)
+  color-laid : LaidTo color-at (color-at .places-for .result .nir) (x .rewrite-color .last .1 .1 .1 .0)
   color-laid =
-      let s = begun color-at in
       let w = follow color-at in
-      next-laid (s .args .src .now) (s .args .dst .now) (s .pre .1) (color-at .places-for .result .color) (cond (s .args .format .«has_color») 6 0) (color-at .places-for .result .nir) (w .nir) (omega (arith, w .waveform, w .extra, w .ends)) (time-laid (x .before .before .before .before .before .before)) (x .rewrite-color .ensures)
+      next color-at (color-at .places-for .result .color) (cond (begun color-at .args .format .«has_color») 6 0) (color-at .places-for .result .nir) (w .nir) (omega (arith, w .waveform, w .extra, w .ends)) (time-laid (x .before .before .before .before .before .before)) (x .rewrite-color .ensures)
 
 module _ (x : tie.After-rewrite-nir) where
   abbrev nir-at : tie.After-places-for
   nir-at = color-at (x .before .before .before .before)
 
-  nir-laid : Laid (begun nir-at .args .src .now) (begun nir-at .args .dst .now) (begun nir-at .pre .1) (nir-at .places-for .result .waveform) (x .rewrite-nir .last .1 .1 .1 .0)
+  nir-laid : LaidTo nir-at (nir-at .places-for .result .waveform) (x .rewrite-nir .last .1 .1 .1 .0)
   nir-laid =
-      let s = begun nir-at in
       let w = follow nir-at in
-      next-laid (s .args .src .now) (s .args .dst .now) (s .pre .1) (nir-at .places-for .result .nir) (cond (s .args .format .«has_nir») 2 0) (nir-at .places-for .result .waveform) (w .waveform) (omega (arith, w .extra, w .ends)) (color-laid (x .before .before .before .before)) (x .rewrite-nir .ensures)
+      next nir-at (nir-at .places-for .result .nir) (cond (begun nir-at .args .format .«has_nir») 2 0) (nir-at .places-for .result .waveform) (w .waveform) (omega (arith, w .extra, w .ends)) (color-laid (x .before .before .before .before)) (x .rewrite-nir .ensures)
 
 module _ (x : tie.After-rewrite-waveform) where
   abbrev waveform-at : tie.After-places-for
   waveform-at = nir-at (x .before .before .before .before)
 
-  waveform-laid : Laid (begun waveform-at .args .src .now) (begun waveform-at .args .dst .now) (begun waveform-at .pre .1) (waveform-at .places-for .result .«extra_bytes») (x .rewrite-waveform .last .1 .1 .1 .0)
+  waveform-laid : LaidTo waveform-at (waveform-at .places-for .result .«extra_bytes») (x .rewrite-waveform .last .1 .1 .1 .0)
   waveform-laid =
-      let s = begun waveform-at in
       let w = follow waveform-at in
-      next-laid (s .args .src .now) (s .args .dst .now) (s .pre .1) (waveform-at .places-for .result .waveform) (cond (s .args .format .«has_waveform») 29 0) (waveform-at .places-for .result .«extra_bytes») (w .extra) (w .ends) (nir-laid (x .before .before .before .before)) (x .rewrite-waveform .ensures)
-
--- a record that is all laid is what stands for it
-same : (p : tie.After-places-for) {e : List ℕ} → Laid (begun p .args .src .now) (begun p .args .dst .now) (begun p .pre .1) (length (begun p .args .src .now)) e → e ≡ pointBack (begun p .args .format) (begun p .args .src .now)
-same p l =
-    let s = begun p in
-    all-laid (s .args .src .now) (s .args .dst .now) (s .pre .1) l
-    ∙ sym (point-same (s .args .format) (s .args .src .now) (s .pre .0) (λ k. omega (arith, p .before .before .shared-slice-known .given k)))
+      next waveform-at (waveform-at .places-for .result .waveform) (cond (begun waveform-at .args .format .«has_waveform») 29 0) (waveform-at .places-for .result .«extra_bytes») (w .extra) (w .ends) (nir-laid (x .before .before .before .before)) (x .rewrite-waveform .ensures)
 
 rewrite-time-requires : tie.Need-rewrite-time-requires
 rewrite-time-requires c κs =
     let x = c .before .before .before in
-    let p = core-at x in
-    let w = follow p in
-    (omega (arith, w .color, w .nir, w .waveform, w .extra, w .ends), laid-length (begun p .args .src .now) (begun p .args .dst .now) (begun p .pre .1) (p .places-for .result .«gps_time») (core-laid x))
+    let w = follow (core-at x) in
+    (omega (arith, w .color, w .nir, w .waveform, w .extra, w .ends), kept (core-at x) (core-at x .places-for .result .«gps_time») (core-laid x))
 
+rewrite-color-requires : tie.Need-rewrite-color-requires
+rewrite-color-requires c κs =
+    let x = c .before .before .before .before .before in
+    let w = follow (time-at x) in
+    (omega (arith, w .nir, w .waveform, w .extra, w .ends), kept (time-at x) (time-at x .places-for .result .color) (time-laid x))
+
+rewrite-nir-requires : tie.Need-rewrite-nir-requires
+rewrite-nir-requires c κs =
+    let x = c .before .before .before in
+    let w = follow (color-at x) in
+    (omega (arith, w .waveform, w .extra, w .ends), kept (color-at x) (color-at x .places-for .result .nir) (color-laid x))
+
+rewrite-waveform-requires : tie.Need-rewrite-waveform-requires
+rewrite-waveform-requires c κs =
+    let x = c .before .before .before in
+    let w = follow (nir-at x) in
+    (omega (arith, w .extra, w .ends), kept (nir-at x) (nir-at x .places-for .result .waveform) (nir-laid x))
+
+rewrite-extra-requires : tie.Need-rewrite-extra-requires
+rewrite-extra-requires c κs = let x = c .before .before .before in (follow (waveform-at x) .ends, kept (waveform-at x) (waveform-at x .places-for .result .«extra_bytes») (waveform-laid x))
+
+-- a record that ends after the time is all laid there
 returns : tie.Need-returns
 returns c =
     let x = c .before .before .before .before in
@@ -110,43 +136,15 @@ returns c =
     let all : time-at x .places-for .result .color ≡ length (a .src .now) = sym (c .if1 .taken) in
     same (time-at x) (time-laid x ∙ ap (λ (k : ℕ). sets (a .dst .now) 0 (take k (a .src .now))) all)
 
-rewrite-color-requires : tie.Need-rewrite-color-requires
-rewrite-color-requires c κs =
-    let x = c .before .before .before .before .before in
-    let p = time-at x in
-    let w = follow p in
-    (omega (arith, w .nir, w .waveform, w .extra, w .ends), laid-length (begun p .args .src .now) (begun p .args .dst .now) (begun p .pre .1) (p .places-for .result .color) (time-laid x))
-
-rewrite-nir-requires : tie.Need-rewrite-nir-requires
-rewrite-nir-requires c κs =
-    let x = c .before .before .before in
-    let p = color-at x in
-    let w = follow p in
-    (omega (arith, w .waveform, w .extra, w .ends), laid-length (begun p .args .src .now) (begun p .args .dst .now) (begun p .pre .1) (p .places-for .result .nir) (color-laid x))
-
-rewrite-waveform-requires : tie.Need-rewrite-waveform-requires
-rewrite-waveform-requires c κs =
-    let x = c .before .before .before in
-    let p = nir-at x in
-    let w = follow p in
-    (omega (arith, w .extra, w .ends), laid-length (begun p .args .src .now) (begun p .args .dst .now) (begun p .pre .1) (p .places-for .result .waveform) (nir-laid x))
-
-rewrite-extra-requires : tie.Need-rewrite-extra-requires
-rewrite-extra-requires c κs =
-    let x = c .before .before .before in
-    let p = waveform-at x in
-    (follow p .ends, laid-length (begun p .args .src .now) (begun p .args .dst .now) (begun p .pre .1) (p .places-for .result .«extra_bytes») (waveform-laid x))
-
 returns-2 : tie.Need-returns-2
 returns-2 c =
     let e = c .before .before in
     let x = e .before .before .before .before in
     let p = waveform-at x in
-    let a = begun p .args in
-    let s = a .src .now in
+    let s = begun p .args .src .now in
     let at = p .places-for .result .«extra_bytes» in
     let rest : take (length s - at) (drop at s) ≡ drop at s = take-all (length s - at) (drop at s) (simp length-drop (omega arith)) in
-    same p (next-laid s (a .dst .now) (begun p .pre .1) at (length s - at) (length s) (omega (arith, follow p .ends)) (omega arith) (waveform-laid x) (e .rewrite-extra .ensures ∙ ap (sets (x .rewrite-waveform .last .1 .1 .1 .0) at) (sym rest)))
+    same p (next p at (length s - at) (length s) (omega (arith, follow p .ends)) (omega arith) (waveform-laid x) (e .rewrite-extra .ensures ∙ ap (sets (x .rewrite-waveform .last .1 .1 .1 .0) at) (sym rest)))
 
 pub rewrite-point-spec : {M : Type 1} → statement M
 rewrite-point-spec =
