@@ -1,7 +1,7 @@
 -- When flags fit, what the old bytes then read, and that nothing else could be read.
 use Prim.Native.Nat.{ℕ, _%_, _≤_}
 use mathlib.Core.Path.{_≡_, refl, ap, sym, subst, _∙_}
-use mathlib.Core.Bool.{Bool, true, false, not, cond, _&&_}
+use mathlib.Core.Bool.{Bool, true, false, not, cond, _&&_, Bool·beq}
 use native.Mathlib.Omega.{arith}
 use borrow.Author.Tests.{ltb-false, le-ltb, eqb-true, eqb-false, eq-eqb, ne-eqb}
 use lib.Dec.{eqb, ltb}
@@ -96,6 +96,19 @@ module _ (k : ℕ) where
   unfolding overlapGoes
   read-goes true low e = e
   read-goes false low e = rw (e, ne-eqb k 28 (λ q. eqb-false (k % 16) 12 low (omega arith)))
+
+-- the same by tests of the class: 28 goes with neither, and of the others 12 alone with an overlap
+pub never-28 : (o : Bool) → overlapGoes o 28 ≡ false
+unfolding overlapGoes
+never-28 true = refl
+never-28 false = refl
+
+pub says-12 : (k : ℕ) → eqb k 28 ≡ false → (o t : Bool) → eqb k 12 ≡ t → overlapGoes o k ≡ Bool·beq o t
+unfolding overlapGoes
+says-12 k other true true e = e
+says-12 k other true false e = e
+says-12 k other false true e = rw e
+says-12 k other false false e = rw (e, other)
 
 -- the two bytes of extended flags that fit
 module _ (a b c : ℕ) (fits : flagsFitOf (ThreeByte a b c) ≡ Fits) where

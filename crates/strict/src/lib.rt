@@ -1,6 +1,7 @@
 // One record of the strict conversion and of the upgrade, added by document 01: whether a point can be made old with every
 // field the same, and an old point made new. The bytes are the point writer's.
 ghost use mathlib.Core.Path.{_≡_};
+ghost use Rattle.angle.specs.Angle.{nearestRank};
 ghost use Rattle.strict.specs.Fit.{firstOf, overlapGoes, readingsFit, flagsFitOf, nirFitOf, rankFits, scaledFitOf, angleFitOf, fieldsFit, fitOf};
 ghost use Rattle.strict.specs.Upgrade.{upgradedFlags, upgradedOld, upgradedOf};
 use angle::ScanAngle;
@@ -15,10 +16,11 @@ const OVERLAP_CLASSIFICATION_CODE: u8 = 12;
 
 const READ_AS_OVERLAP_TOO: u8 = 28;
 
-// The ranks that a strict conversion may make.
-const LOWEST_RANK: i16 = -128;
+// The scaled angles whose nearest rank, 6n/1000 with halves away from zero, is from -128 to 127: 6 * 21416 is the last multiple
+// of 6 below 128500, and 6 * 21249 the last below 127500.
+const LOWEST_SCALED: i16 = -21416;
 
-const HIGHEST_RANK: i16 = 127;
+const HIGHEST_SCALED: i16 = 21249;
 
 // Whether a point goes into the old format with every field the same, or the first field that does not.
 pub enum Fit {
@@ -129,13 +131,10 @@ fn check_readings(
 fn overlap_goes(overlap: bool, class: u8) -> bool
     ensures { λ r. ⌜ r ≡ overlapGoes overlap class ⌝ }
 {
-    if overlap {
-        return class == OVERLAP_CLASSIFICATION_CODE;
-    }
-    if class == OVERLAP_CLASSIFICATION_CODE {
+    if class == READ_AS_OVERLAP_TOO {
         return false;
     }
-    class != READ_AS_OVERLAP_TOO
+    overlap == (class == OVERLAP_CLASSIFICATION_CODE)
 }
 
 // The near infrared fits where it is missing or 0: the old formats have none.
@@ -167,22 +166,17 @@ fn check_angle(scan_angle: ScanAngle) -> Fit
 fn check_scaled(n: i16) -> Fit
     ensures { λ r. ⌜ r ≡ scaledFitOf n ⌝ }
 {
-    if rank_fits(angle::nearest_rank(n)) {
+    if scaled_fits(n) {
         return Fit::Fits;
     }
     Fit::Refused(Refusal::Angle(signed::bits16(n)))
 }
 
-fn rank_fits(rank: i16) -> bool
-    ensures { λ r. ⌜ r ≡ rankFits rank ⌝ }
+// Whether the nearest rank need not be held.
+fn scaled_fits(n: i16) -> bool
+    ensures { λ r. ⌜ r ≡ rankFits (nearestRank n) ⌝ }
 {
-    if rank < LOWEST_RANK {
-        return false;
-    }
-    if rank > HIGHEST_RANK {
-        return false;
-    }
-    true
+    n >= LOWEST_SCALED && n <= HIGHEST_SCALED
 }
 
 // A point with these two bytes of flags made new.
