@@ -16,10 +16,12 @@ use Rattle.format.specs.declared.FormatLen.the-variants as len
 use Rattle.format.specs.declared.Field.the-variants.{ExtraBytes}
 use Rattle.format.specs.Fields.{placeOf, recordBytes, lenOf}
 use Rattle.format.specs.Laws.{record-end, len-is}
+use Rattle.flags.specs.declared.Flags.{Flags}
 use Rattle.flags.specs.Bytes.{twoBytesOf}
 use Rattle.point.specs.declared.Point.{Point}
 use Rattle.point.specs.declared.PointRead.the-variants.{Is, Refused}
-use Rattle.point.specs.Read.{fieldOf, flagsAt, pointOf, sizedOf, readAfter, readOf, extraAfter, extraOf}
+use Rattle.point.specs.Read.{fieldOf, pointOf, sizedOf, readAfter, readOf, extraAfter, extraOf}
+use Rattle.point.specs.Kind.{old-flags}
 use Rattle.point_write.specs.Write.{recordOf, flaggedOf, writtenAfter, writtenOf}
 use Rattle.point_write.specs.Write as write
 use Rattle.point_write.specs.Laws.{sized-extended, sized-legacy}
@@ -57,7 +59,7 @@ module _ (f : Format) (s : List ℕ) where
 
   -- an old format reads two bytes of flags, which fit
   pub answered-written : (p : Point) → Answered p → (d : List ℕ) → recordBytes f ≤ length d → writtenOf f p (extraOf f s) d ≡ (Bytes (recordBytes f), recordOf f (pointOf f s) (fieldOf f ExtraBytes s) ++ drop (recordBytes f) d)
-  unfolding writtenOf pointOf flagsAt twoBytesOf
+  unfolding writtenOf twoBytesOf
   answered-written p a d h =
       ap (λ (q : Point). writtenOf f q (extraOf f s) d) (a .point)
       ∙ ap (λ (e : List ℕ). writtenOf f (pointOf f s) e d) (a .extra)
@@ -74,4 +76,4 @@ module _ (f : Format) (s : List ℕ) where
       go true t = sized-extended f (pointOf f s) e n d (extra-length (a .room)) h t
       go false t =
           sized-legacy f (pointOf f s) e n d (extra-length (a .room)) h t
-          ∙ ap (λ (c : Bool). flaggedOf f (pointOf f s) e n d (twoBytesOf (flagsAt c 14 s))) t
+          ∙ ap (λ (x : Flags). flaggedOf f (pointOf f s) e n d (twoBytesOf x)) (old-flags f s t)

@@ -16,8 +16,6 @@ use Rattle.le.specs.Le as le
 use Rattle.le.specs.Le.{num}
 use Rattle.le.specs.Laws.{num-lt}
 use Rattle.format.specs.declared.Format.{Format}
-use Rattle.format.specs.declared.Field.the-variants.{ScanAngle as AngleField}
-use Rattle.format.specs.Fields.{placeOf}
 use Rattle.flags.specs.declared.Flags.{Flags}
 use Rattle.flags.specs.declared.Flags.the-variants.{TwoByte}
 use Rattle.flags.specs.Readings.{returnNumberOf, numberOfReturnsOf, classOf, channelOf, overlapOf, standardOverlapOf}
@@ -27,7 +25,8 @@ use Rattle.angle.specs.Angle.{nearestRank, toScaled}
 use Rattle.point.specs.declared.MaybeNir.{MaybeNir}
 use Rattle.point.specs.declared.MaybeNir.the-variants.{Some, None}
 use Rattle.point.specs.declared.Point.{Point}
-use Rattle.point.specs.Read.{flagsAt, angleAt, nirAt, pointOf}
+use Rattle.point.specs.Read.{nirAt, pointOf}
+use Rattle.point.specs.Kind.{old-flags, old-angle}
 use Rattle.strict.specs.declared.Fit.{Fit}
 use Rattle.strict.specs.declared.Fit.the-variants.{Fits, Refused}
 use Rattle.strict.specs.Fit.{firstOf, overlapGoes, readingsFit, flagsFitOf, nirFitOf, rankFits, scaledFitOf, angleFitOf, fitOf}
@@ -36,21 +35,15 @@ use Rattle.strict.specs.Shown.{exactRank, nirNumber, Same, Never, Unshow
 use Rattle.strict.specs.Laws.{not-refused, past, last, read-goes}
 use Rattle.strict.specs.Whole.{exact-fits}
 
--- what an old record says of flags, near infrared and angle
-module _ (old : Format) (is-old : old .«is_extended» ≡ false) (no-nir : old .«has_nir» ≡ false) (t : List ℕ) where
-  old-flags : pointOf old t .flags ≡ TwoByte (num 1 14 t) (num 1 15 t)
-  unfolding pointOf flagsAt
-  old-flags = rw is-old
-
-  old-nir : nirNumber (pointOf old t .nir) ≡ 0
+-- what an old record says of near infrared and angle
+module _ (old : Format) (t : List ℕ) where
+  old-nir : old .«has_nir» ≡ false → nirNumber (pointOf old t .nir) ≡ 0
   unfolding pointOf nirAt
-  old-nir = rw no-nir
+  old-nir no-nir = rw no-nir
 
-  old-rank : le.Bytes t → (r : ℤ) × SFits w8 r × (pointOf old t .«scan_angle» ≡ Rank r)
-  unfolding pointOf angleAt
-  old-rank bytes =
-      let at = placeOf old AngleField in
-      (toZ w8 (num 1 at t), toZ-fits w8 (num 1 at t) (record { fits = num-lt 1 t at bytes }), rw is-old)
+  old-rank : old .«is_extended» ≡ false → le.Bytes t → (r : ℤ) × SFits w8 r × (pointOf old t .«scan_angle» ≡ Rank r)
+  old-rank is-old bytes =
+      (toZ w8 (num 1 16 t), toZ-fits w8 (num 1 16 t) (record { fits = num-lt 1 t 16 bytes }), old-angle old t is-old)
 
 -- what each test of the chain names
 module _ (old : Format) (is-old : old .«is_extended» ≡ false) (no-nir : old .«has_nir» ≡ false) (p : Point) (why : Refusal) where
@@ -60,7 +53,7 @@ module _ (old : Format) (is-old : old .«is_extended» ≡ false) (no-nir : old 
 
   -- what no two bytes say no old record says
   never : (says : Flags → Type 0) → ((x y : ℕ) → says (TwoByte x y) → ⊥) → Never old (λ q. says (q .flags))
-  never says none t bytes s = none (num 1 14 t) (num 1 15 t) (subst says (old-flags old is-old no-nir t) s)
+  never says none t bytes s = none (num 1 14 t) (num 1 15 t) (subst says (old-flags old t is-old) s)
 
   overlap-named : overlapGoes (overlapOf (p .flags)) (classOf (p .flags)) ≡ false → Unshown old p (Overlap (classOf (p .flags)))
   overlap-named t =
@@ -85,7 +78,7 @@ module _ (old : Format) (is-old : old .«is_extended» ≡ false) (no-nir : old 
   nir-named : (n : MaybeNir) → p .nir ≡ n → nirFitOf n ≡ Refused why → Unshown old p why
   nir-named (Some n) is e =
       let same : nirNumber (p .nir) ≡ n = ap nirNumber is in
-      last (Unshown old p) why (eqb n 0) (Nir n) (λ t. subst (λ (m : ℕ). Unshown old p (Nir m)) same (nir (λ b _ z. eqb-false n 0 t (sym same ∙ sym z ∙ old-nir old is-old no-nir b)))) e
+      last (Unshown old p) why (eqb n 0) (Nir n) (λ t. subst (λ (m : ℕ). Unshown old p (Nir m)) same (nir (λ b _ z. eqb-false n 0 t (sym same ∙ sym z ∙ old-nir old b no-nir)))) e
   nir-named None is e = not-refused why (sym e)
 
   angle-named : (a : ScanAngle) → p .«scan_angle» ≡ a → angleFitOf a ≡ Refused why → Unshown old p why
@@ -95,7 +88,7 @@ module _ (old : Format) (is-old : old .«is_extended» ≡ false) (no-nir : old 
     where
       none : Never old (λ q. q .«scan_angle» ≡ Rank (exactRank (p .«scan_angle»)))
       none t bytes same =
-          let found = old-rank old is-old no-nir t bytes in
+          let found = old-rank old t is-old bytes in
           let r = found .0 in
           let rank : r ≡ exactRank (p .«scan_angle») = cc (found .2, same) in
           not-refused why (sym e ∙ exact-fits (Scaled n) r (found .1) (rank ∙ ap exactRank is))
