@@ -2,7 +2,6 @@
 // that is missing is ignored; of a number wider than its field the low bits count. Apart from `capi_header` because together
 // they would be checked for a minute.
 ghost use mathlib.Core.Path.{_≡_};
-ghost use Prim.Native.Nat.{_%_, _<_};
 ghost use lib.ListN.{getD};
 ghost use Rattle.le.specs.Real.{f64Of};
 ghost use Rattle.header_write.specs.Wrote.{wroteOf};
@@ -17,6 +16,10 @@ use header::OptionU64;
 use header::Version;
 use le::float;
 use lent::Wrote;
+use words::low8;
+use words::low16;
+use words::low32;
+use words::nth;
 
 // Writes the header of 51 numbers and three texts, and then its padding, to the front of dst; the row's value is the count
 // of bytes.
@@ -43,6 +46,8 @@ pub extern "C" fn las_header_write(
 fn header_from(n: &[u64; 51], guid: [u8; 16], system: [u8; 32], software: [u8; 32]) -> Header
     ensures { λ r. ⌜ r ≡ headerFrom (now (n .entry)) guid system software ⌝ }
 {
+    // a slice from here on, as `words` reads numbers
+    let n: &[u64] = n;
     Header {
         file_source_id: low16(n, 0),
         global_encoding: low16(n, 1),
@@ -83,7 +88,7 @@ fn header_from(n: &[u64; 51], guid: [u8; 16], system: [u8; 32], software: [u8; 3
 }
 
 // The legacy counts by return.
-fn by_return_from(n: &[u64; 51]) -> [u32; 5]
+fn by_return_from(n: &[u64]) -> [u32; 5]
     ensures { λ r. ⌜ r ≡ lowFrom (now (n .entry)) 12 5 ⌝ }
 {
     [
@@ -96,7 +101,7 @@ fn by_return_from(n: &[u64; 51]) -> [u32; 5]
 }
 
 // What is kept beside the floats.
-fn nans_from(n: &[u64; 51]) -> Nans
+fn nans_from(n: &[u64]) -> Nans
     ensures { λ r. ⌜ r ≡ nansFrom (now (n .entry)) ⌝ }
 {
     Nans {
@@ -117,7 +122,7 @@ fn nans_from(n: &[u64; 51]) -> Nans
 
 // What may be missing: any number but 0 says that it is there.
 
-fn start_from(n: &[u64; 51]) -> OptionU64
+fn start_from(n: &[u64]) -> OptionU64
     ensures { λ r. ⌜ r ≡ startFrom (getD (now (n .entry)) 29 0) (getD (now (n .entry)) 30 0) ⌝ }
 {
     if nth(n, 29) == 0 {
@@ -126,7 +131,7 @@ fn start_from(n: &[u64; 51]) -> OptionU64
     OptionU64::Some(nth(n, 30))
 }
 
-fn evlr_from(n: &[u64; 51]) -> OptionEvlr
+fn evlr_from(n: &[u64]) -> OptionEvlr
     ensures { λ r. ⌜ r ≡ evlrFrom (getD (now (n .entry)) 31 0) (getD (now (n .entry)) 32 0) (getD (now (n .entry)) 33 0) ⌝ }
 {
     if nth(n, 31) == 0 {
@@ -138,7 +143,7 @@ fn evlr_from(n: &[u64; 51]) -> OptionEvlr
     })
 }
 
-fn large_from(n: &[u64; 51]) -> LargeFile
+fn large_from(n: &[u64]) -> LargeFile
     ensures { λ r. ⌜ r ≡ largeFrom (now (n .entry)) ⌝ }
 {
     LargeFile {
@@ -163,46 +168,16 @@ fn large_from(n: &[u64; 51]) -> LargeFile
     }
 }
 
-// The number at place k, its low bits, and the two halves of the float that it is the bits of.
+// The two halves of the float that the number at place k is the bits of.
 
-fn nth(n: &[u64; 51], k: usize) -> u64
-    requires { ⌜ k < 51 ⌝ }
-    ensures { λ r. ⌜ r ≡ getD (now (n .entry)) k 0 ⌝ }
-{
-    n[k]
-}
-
-fn low8(n: &[u64; 51], k: usize) -> u8
-    requires { ⌜ k < 51 ⌝ }
-    ensures { λ r. ⌜ r ≡ getD (now (n .entry)) k 0 % 256 ⌝ }
-{
-    (n[k] % 256) as u8
-}
-
-fn low16(n: &[u64; 51], k: usize) -> u16
-    requires { ⌜ k < 51 ⌝ }
-    ensures { λ r. ⌜ r ≡ getD (now (n .entry)) k 0 % 65536 ⌝ }
-{
-    (n[k] % 65536) as u16
-}
-
-fn low32(n: &[u64; 51], k: usize) -> u32
-    requires { ⌜ k < 51 ⌝ }
-    ensures { λ r. ⌜ r ≡ getD (now (n .entry)) k 0 % 4294967296 ⌝ }
-{
-    (n[k] % 4294967296) as u32
-}
-
-fn value(n: &[u64; 51], k: usize) -> f64
-    requires { ⌜ k < 51 ⌝ }
+fn value(n: &[u64], k: usize) -> f64
     ensures { λ r. ⌜ r ≡ f64Of (getD (now (n .entry)) k 0) .value ⌝ }
 {
-    float::f64_of(n[k]).value
+    float::f64_of(nth(n, k)).value
 }
 
-fn nan(n: &[u64; 51], k: usize) -> u64
-    requires { ⌜ k < 51 ⌝ }
+fn nan(n: &[u64], k: usize) -> u64
     ensures { λ r. ⌜ r ≡ f64Of (getD (now (n .entry)) k 0) .nan ⌝ }
 {
-    float::f64_of(n[k]).nan
+    float::f64_of(nth(n, k)).nan
 }

@@ -8,7 +8,6 @@
 // A number of a part that is missing is 0 going out and ignored coming in; of a number wider than its field the low bits
 // count. Words and rows are those of the crate words.
 ghost use mathlib.Core.Path.{_≡_};
-ghost use Prim.Native.Nat.{_%_, _<_};
 ghost use lib.ListN.{getD};
 ghost use Rattle.words.specs.Words.{formatOfWord};
 ghost use Rattle.point.specs.Read.{noPoint, readOf};
@@ -29,6 +28,10 @@ use point::Point;
 use point::PointRead;
 use point::Waveform;
 use point::WaveformNans;
+use words::low8;
+use words::low16;
+use words::low32;
+use words::nth;
 
 // The point in the first bytes of s, as 24 numbers; where it is refused they stay as they were.
 #[no_mangle]
@@ -129,6 +132,8 @@ pub fn numbers_of(point: Point) -> [u64; 24]
 pub fn point_from(n: &[u64; 24]) -> Point
     ensures { λ r. ⌜ r ≡ pointFrom (now (n .entry)) ⌝ }
 {
+    // a slice from here on, as `words` reads numbers
+    let n: &[u64] = n;
     Point {
         x: signed::signed32(low32(n, 0)),
         y: signed::signed32(low32(n, 1)),
@@ -143,36 +148,6 @@ pub fn point_from(n: &[u64; 24]) -> Point
         waveform: maybe_waveform_from(n),
         nir: nir_from(n),
     }
-}
-
-// The number at place k, and its low bits.
-
-fn nth(n: &[u64; 24], k: usize) -> u64
-    requires { ⌜ k < 24 ⌝ }
-    ensures { λ r. ⌜ r ≡ getD (now (n .entry)) k 0 ⌝ }
-{
-    n[k]
-}
-
-fn low8(n: &[u64; 24], k: usize) -> u8
-    requires { ⌜ k < 24 ⌝ }
-    ensures { λ r. ⌜ r ≡ getD (now (n .entry)) k 0 % 256 ⌝ }
-{
-    (n[k] % 256) as u8
-}
-
-fn low16(n: &[u64; 24], k: usize) -> u16
-    requires { ⌜ k < 24 ⌝ }
-    ensures { λ r. ⌜ r ≡ getD (now (n .entry)) k 0 % 65536 ⌝ }
-{
-    (n[k] % 65536) as u16
-}
-
-fn low32(n: &[u64; 24], k: usize) -> u32
-    requires { ⌜ k < 24 ⌝ }
-    ensures { λ r. ⌜ r ≡ getD (now (n .entry)) k 0 % 4294967296 ⌝ }
-{
-    (n[k] % 4294967296) as u32
 }
 
 // What may be missing, going out: whether it is there, and what stands for it where it isn't, as the Rust's defaults.
@@ -272,7 +247,7 @@ fn float_bits(value: f32, nan: u32) -> u64
 
 // What may be missing, coming in: any number but 0 says that it is there.
 
-fn time_from(n: &[u64; 24]) -> MaybeTime
+fn time_from(n: &[u64]) -> MaybeTime
     ensures { λ r. ⌜ r ≡ timeFrom (getD (now (n .entry)) 8 0) (getD (now (n .entry)) 9 0) ⌝ }
 {
     if nth(n, 8) == 0 {
@@ -281,7 +256,7 @@ fn time_from(n: &[u64; 24]) -> MaybeTime
     MaybeTime::Some(float::f64_of(nth(n, 9)))
 }
 
-fn color_from(n: &[u64; 24]) -> MaybeColor
+fn color_from(n: &[u64]) -> MaybeColor
     ensures { λ r. ⌜ r ≡ colorFrom (getD (now (n .entry)) 10 0) (getD (now (n .entry)) 11 0) (getD (now (n .entry)) 12 0) (getD (now (n .entry)) 13 0) ⌝ }
 {
     if nth(n, 10) == 0 {
@@ -294,7 +269,7 @@ fn color_from(n: &[u64; 24]) -> MaybeColor
     })
 }
 
-fn nir_from(n: &[u64; 24]) -> MaybeNir
+fn nir_from(n: &[u64]) -> MaybeNir
     ensures { λ r. ⌜ r ≡ nirFrom (getD (now (n .entry)) 14 0) (getD (now (n .entry)) 15 0) ⌝ }
 {
     if nth(n, 14) == 0 {
@@ -311,7 +286,7 @@ struct Bits {
     z_t: u32,
 }
 
-fn maybe_waveform_from(n: &[u64; 24]) -> MaybeWaveform
+fn maybe_waveform_from(n: &[u64]) -> MaybeWaveform
     ensures { λ r. ⌜ r ≡ maybeWaveformFrom (now (n .entry)) ⌝ }
 {
     if nth(n, 16) == 0 {

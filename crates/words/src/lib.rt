@@ -1,8 +1,9 @@
-// What C cannot hold, as a word: a u32 with its parts at fixed bits; and an answer that may be a refusal, as a row of three
-// numbers that the caller lends.
+// What C cannot hold, as a word: a u32 with its parts at fixed bits; an answer that may be a refusal, as a row of three
+// numbers that the caller lends; and the numbers that stand for a struct, one after the other.
 ghost use mathlib.Core.Path.{_≡_};
 ghost use mathlib.Core.List.{[], _∷_};
-ghost use Prim.Native.Nat.{_≤_};
+ghost use Prim.Native.Nat.{_%_, _≤_};
+ghost use lib.ListN.{getD};
 ghost use Rattle.flags.specs.Bytes.{flag};
 ghost use Rattle.words.specs.Words.{packedOf, angleOf, angleWord, flagsOf, flagsWord, formatOfWord, formatWord};
 ghost use Rattle.words.specs.Rows.{refusedRow};
@@ -109,4 +110,30 @@ pub fn refuse(row: &mut [u64; 3], refusal: Refusal, record: u64)
 {
     let told = refusal.row(record);
     tell(row, told.number as u64, told.value, told.record)
+}
+
+// The number at place k, 0 past the end, and its low bits.
+
+pub fn nth(n: &[u64], k: usize) -> u64
+    ensures { λ r. ⌜ r ≡ getD (now (n .entry)) k 0 ⌝ }
+{
+    if k < n.len() { n[k] } else { 0 }
+}
+
+pub fn low8(n: &[u64], k: usize) -> u8
+    ensures { λ r. ⌜ r ≡ getD (now (n .entry)) k 0 % 256 ⌝ }
+{
+    (nth(n, k) % 256) as u8
+}
+
+pub fn low16(n: &[u64], k: usize) -> u16
+    ensures { λ r. ⌜ r ≡ getD (now (n .entry)) k 0 % 65536 ⌝ }
+{
+    (nth(n, k) % 65536) as u16
+}
+
+pub fn low32(n: &[u64], k: usize) -> u32
+    ensures { λ r. ⌜ r ≡ getD (now (n .entry)) k 0 % 4294967296 ⌝ }
+{
+    (nth(n, k) % 4294967296) as u32
 }

@@ -39,7 +39,7 @@ returns c =
     let c28 = c27 .before in
     let c29 = c28 .before in
     let c30 = c29 .before in
-    let a = c30 .args in
+    let a = c30 .before .args in
     λ i. record {
       «file_source_id» = c29 .low16 .ensures i;
       «global_encoding» = c28 .low162 .ensures i;
