@@ -4,10 +4,8 @@
 pub const OLD: usize = 28;
 pub const NEW: usize = 30;
 
-/// The angle of a new record in whole degrees, halves away from zero.
-fn rank(new: &[u8; NEW]) -> i32 {
-    let scaled = i32::from(i16::from_le_bytes([new[18], new[19]]));
-    (6 * scaled + 500 * scaled.signum()) / 1000
+fn scaled(new: &[u8; NEW]) -> i16 {
+    i16::from_le_bytes([new[18], new[19]])
 }
 
 /// Whether a new record goes into the old format with every field the same.
@@ -18,7 +16,15 @@ fn fits(new: &[u8; NEW]) -> bool {
         && class < 32
         && class != 28
         && (new[15] & 8 != 0) == (class == 12)
-        && (-128..=127).contains(&rank(new))
+        // whose nearest whole degree an i8 holds
+        && (-21_416..=21_249).contains(&scaled(new))
+}
+
+/// The angle of a new record in whole degrees, halves away from zero.
+fn rank(new: &[u8; NEW]) -> i32 {
+    let scaled = i32::from(scaled(new));
+    let half = if scaled < 0 { -500 } else { 500 };
+    (6 * scaled + half) / 1000
 }
 
 pub fn to_old(run: &[u8], made: &mut [u8]) {
@@ -39,8 +45,8 @@ pub fn to_new(run: &[u8], made: &mut [u8]) {
     for (old, new) in run.iter().zip(made.as_chunks_mut::<NEW>().0) {
         let class = old[15] & 31;
         let overlap = if class == 12 { 8 } else { 0 };
-        // The whole degree in steps of 0.006, cut off as the Rust cuts it off.
-        let angle = (f32::from(old[16] as i8) / 0.006) as i16;
+        // the whole degree in steps of 0.006, the fraction dropped
+        let angle = (i32::from(old[16] as i8) * 500 / 3) as i16;
         new[..14].copy_from_slice(&old[..14]);
         new[14] = old[14] & 7 | (old[14] >> 3 & 7) << 4;
         new[15] = old[14] & 0xc0 | old[15] >> 5 | overlap;
