@@ -1,20 +1,20 @@
 -- Laws of the run's records: an image has the target's length and is laid piece by piece, and where a run is judged to fit the writer
 -- takes each of its records.
-use Prim.Native.Nat.{ℕ, zero, suc, _+_, _*_, _≤_}
+use Prim.Native.Nat.{ℕ, zero, suc, _+_, _*_, _≤_, _<_}
 use mathlib.Core.Path.{_≡_, refl, ap, sym, _∙_}
 use mathlib.Core.Bool.{Bool, true, false, cond}
-use mathlib.Core.List.{List, _++_}
+use mathlib.Core.List.{List, [], _∷_, _++_}
 use native.Mathlib.Nat.{zero-add, zero-mul, suc-mul}
 use native.Mathlib.Omega.{arith}
-use lib.ListN.{length, take, drop, length-append, length-drop}
-use lib.Seq.{sets, length-take-le}
+use lib.ListN.{length, set, take, drop, length-append, length-take, length-drop}
+use lib.Seq.{sets, set-set, set-comm, take-add, length-take-le}
 use Rattle.le.specs.Le.{Bytes}
 use Rattle.lent.specs.Laws.{sets-append, whole as laid}
 use Rattle.format.specs.declared.Format.{Format}
 use Rattle.format.specs.declared.FormatLen.the-variants as len
 use Rattle.format.specs.declared.Field.the-variants.{GpsTime, ExtraBytes}
 use Rattle.format.specs.Fields.{restOf, placeOf, sizes, recordBytes, lenOf}
-use Rattle.format.specs.Laws.{rest-sum, record-sum, len-is}
+use Rattle.format.specs.Laws.{further, rest-sum, record-sum, len-is}
 use Rattle.point.specs.declared.Point.{Point}
 use Rattle.point.specs.Read.{pointOf, fieldOf}
 use Rattle.point_bytes.specs.Bytes.{coreOf, legacyCoreOf}
@@ -35,6 +35,31 @@ use Rattle.judge.specs.Judge.{judgedBy, judgeRun, recordsOf, judgedOf, verdictO
 use Rattle.convert.specs.Run.{turnedOf, imageOf, imagesOf, ran, convertedOf, convertedBy, doneOf}
 use Rattle.convert.specs.Asked.{Takes, TakesRun}
 use Rattle.convert.specs.Moved.{middleOf, restFrom, image-moved, middle-goes, middle-end}
+
+-- a store leaves those past it as they come
+set-before : (d y : List ℕ) (i j b : ℕ) → i < j → set (sets d j y) i b ≡ sets (set d i b) j y
+set-before d [] i j b h = refl
+set-before d (a ∷ y) i j b h =
+    set-before (set d j a) y i (suc j) b (omega arith) ∙ ap (λ (l : List ℕ). sets l (suc j) y) (set-comm d j i a b (λ e. omega (arith, e)))
+
+-- what is written over is gone
+written-over : (d y m : List ℕ) (at : ℕ) → length y ≤ length m → sets (sets d at y) at m ≡ sets d at m
+written-over d [] m at h = refl
+written-over d (a ∷ y) [] at h = absurd (omega arith)
+written-over d (a ∷ y) (b ∷ m) at h =
+    ap (λ (l : List ℕ). sets l (suc at) m) (set-before (set d at a) y at (suc at) b (omega arith) ∙ ap (λ (l : List ℕ). sets l (suc at) y) (set-set d at a b))
+    ∙ written-over (set d at b) y m (suc at) (omega arith)
+
+-- what stands at the front, laid in two parts
+two-parts : (s d : List ℕ) (m n : ℕ) → m ≤ length s → sets (sets d 0 (take m s)) m (take n (drop m s)) ≡ sets d 0 (take (m + n) s)
+two-parts s d m n h =
+    sym (ap (sets d 0) (take-add m n s) ∙ sets-append d (take m s) (take n (drop m s)) 0 ∙ rw (length-take-le m s h, zero-add))
+
+-- twice eight bytes are laid, and what comes at 14 goes over the last two
+front-laid : (s m d : List ℕ) → 16 ≤ length s → 2 ≤ length m → sets (sets (sets d 0 (take 8 s)) 8 (take 8 (drop 8 s))) 14 m ≡ sets (sets d 0 (take 14 s)) 14 m
+front-laid s m d there over =
+    ap (λ (e : List ℕ). sets e 14 m) (two-parts s d 8 8 (omega arith) ∙ sym (two-parts s d 14 2 (omega arith)))
+    ∙ written-over (sets d 0 (take 14 s)) (take 2 (drop 14 s)) m 14 (simp (length-take, length-drop) (omega arith))
 
 -- a point that the writer takes, with as many extra bytes as the format's: the record has the format's length
 module _ (f : Format) (p : Point) (e : List ℕ) (n : ℕ) (long : lenOf f ≡ len.Is n) (he : length e ≡ f .«extra_bytes») (takes : Takes f p) where
@@ -60,15 +85,18 @@ module _ (up : Bool) (p : Plan) (sound : Sound up p) (s : List ℕ) (whole : len
   image-length = taken-length (p .target) _ _ (p .«target_length») (sound .into) extra-kept takes
 
   -- laid piece by piece, it is the image at the front
-  pub image-laid : Bytes s → (d : List ℕ) → p .«target_length» ≤ length d → sets (sets (sets d 0 (take 14 s)) 14 (middleOf up s)) (placeOf (p .target) GpsTime) (restFrom (p .source) (p .target) s) ≡ imageOf up p s ++ drop (p .«target_length») d
+  pub image-laid : Bytes s → (d : List ℕ) → p .«target_length» ≤ length d → sets (sets (sets (sets d 0 (take 8 s)) 8 (take 8 (drop 8 s))) 14 (middleOf up s)) (placeOf (p .target) GpsTime) (restFrom (p .source) (p .target) s) ≡ imageOf up p s ++ drop (p .«target_length») d
   image-laid all d room =
       let size : recordBytes (p .source) ≡ length s = sym (len-is (p .source) (p .«source_length») (sound .from)) ∙ sym whole in
-      let front : length (take 14 s) ≡ 14 = length-take-le 14 s (omega (arith, record-sum (p .source))) in
-      let end = middle-end up (p .source) (p .target) (sound .mates) s (middle-goes up p (sound .mates) s all size takes) in
+      let long : 20 ≤ length s = omega (arith, record-sum (p .source)) in
+      let goes = middle-goes up p (sound .mates) s all size takes in
+      let end = middle-end up (p .source) (p .target) (sound .mates) s goes in
       let rest = restFrom (p .source) (p .target) s in
-      sym
+      let after : 2 ≤ length (middleOf up s) = omega (arith, end, further 20 (p .target .«is_extended»)) in
+      ap (λ (e : List ℕ). sets e (placeOf (p .target) GpsTime) rest) (front-laid s (middleOf up s) d (omega arith) after)
+      ∙ sym
       (ap (sets d 0) (image-moved up p (sound .mates) s all size takes) ∙ sets-append d (take 14 s) (middleOf up s ++ rest) 0
-      ∙ rw (front, zero-add) (sets-append (sets d 0 (take 14 s)) (middleOf up s) rest 14 ∙ rw end))
+      ∙ rw (length-take-le 14 s (omega arith), zero-add) (sets-append (sets d 0 (take 14 s)) (middleOf up s) rest 14 ∙ rw end))
       ∙ laid d (imageOf up p s) (p .«target_length») image-length room
 
 -- where the records fit, the writer takes each of them

@@ -90,8 +90,9 @@ fn write_record(src: &[u8], plan: Plan, up: bool, dst: &mut [u8])
 {
     let source = plan.source;
     let target = plan.target;
-    let front = fourteen(&src[..14]);
-    put_at(dst, 0, &front);
+    // the last two of these bytes are flags, which the middle overwrites
+    move_eight(src, 0, dst, 0);
+    move_eight(src, 8, dst, 8);
     write_middle(src, up, dst);
     move_rest(src, source, dst, target);
 }
@@ -105,42 +106,18 @@ fn put_at(dst: &mut [u8], at: usize, bytes: &[u8])
     lent::put(&mut dst[at..end], bytes);
 }
 
-// The bytes of a part of that length. They are read as numbers, which the compiler moves at once: a slice that it can't tell from
-// the destination it would move byte by byte.
-
-fn fourteen(part: &[u8]) -> [u8; 14]
-    requires { ⌜ length (now part) ≡ 14 ⌝ }
-    ensures { λ r. ⌜ r ≡ now (part .entry) ⌝ }
+// Eight bytes from place to place. They are read as a number, which the compiler moves at once: a slice that it can't tell from the
+// destination it would move byte by byte.
+fn move_eight(src: &[u8], from: usize, dst: &mut [u8], to: usize)
+    requires { ⌜ (from + 8 ≤ length (now src)) × (to + 8 ≤ length (now dst)) ⌝ }
+    ensures { λ _. ⌜ now (dst .exit) ≡ sets (now (dst .entry)) to (take 8 (drop from (now (src .entry)))) ⌝ }
 {
-    let a = le::u64_at(part, 0);
-    let b = le::u32_at(part, 8);
-    let c = le::u16_at(part, 12);
-    [
-        (a % 256) as u8,
-        (a / 256 % 256) as u8,
-        (a / 65536 % 256) as u8,
-        (a / 16777216 % 256) as u8,
-        (a / 4294967296 % 256) as u8,
-        (a / 1099511627776 % 256) as u8,
-        (a / 281474976710656 % 256) as u8,
-        (a / 72057594037927936 % 256) as u8,
-        (b % 256) as u8,
-        (b / 256 % 256) as u8,
-        (b / 65536 % 256) as u8,
-        (b / 16777216 % 256) as u8,
-        (c % 256) as u8,
-        (c / 256 % 256) as u8,
-    ]
+    let bytes = le::u64_bytes(le::u64_at(&src[from..from + 8], 0));
+    put_at(dst, to, &bytes);
 }
 
-fn eight(part: &[u8]) -> [u8; 8]
-    requires { ⌜ length (now part) ≡ 8 ⌝ }
-    ensures { λ r. ⌜ r ≡ now (part .entry) ⌝ }
-{
-    le::u64_bytes(le::u64_at(part, 0))
-}
-
-fn six(part: &[u8]) -> [u8; 6]
+// The six bytes of a colour, which are read in the same way.
+fn color_of(part: &[u8]) -> [u8; 6]
     requires { ⌜ length (now part) ≡ 6 ⌝ }
     ensures { λ r. ⌜ r ≡ now (part .entry) ⌝ }
 {
@@ -163,8 +140,7 @@ fn move_time(src: &[u8], from: usize, has: bool, dst: &mut [u8], to: usize)
     ensures { λ _. ⌜ now (dst .exit) ≡ sets (now (dst .entry)) to (take (cond has 8 0) (drop from (now (src .entry)))) ⌝ }
 {
     if has {
-        let time = eight(&src[from..from + 8]);
-        put_at(dst, to, &time);
+        move_eight(src, from, dst, to);
     }
 }
 
@@ -173,7 +149,7 @@ fn move_color(src: &[u8], from: usize, has: bool, dst: &mut [u8], to: usize)
     ensures { λ _. ⌜ now (dst .exit) ≡ sets (now (dst .entry)) to (take (cond has 6 0) (drop from (now (src .entry)))) ⌝ }
 {
     if has {
-        let color = six(&src[from..from + 6]);
+        let color = color_of(&src[from..from + 6]);
         put_at(dst, to, &color);
     }
 }

@@ -12,7 +12,7 @@ put-at-requires c κs =
     let b = x .before .before in
     let s = b .before .before .before in
     let a = s .args in
-    omega (arith, ap length (x .six .ensures) ∙ piece-length (a .has) (b .if1 .taken) 6 (a .src .now) (a .from) (s .pre .0), there (a .has) (b .if1 .taken) 6 (a .dst .now) (a .to) (s .pre .1))
+    omega (arith, ap length (x .color-of .ensures) ∙ piece-length (a .has) (b .if1 .taken) 6 (a .src .now) (a .from) (s .pre .0), there (a .has) (b .if1 .taken) 6 (a .dst .now) (a .to) (s .pre .1))
 
 returns : tie.Need-returns
 returns c =
@@ -20,7 +20,7 @@ returns c =
     let x = put .before .before .before in
     let b = x .before .before in
     let a = b .before .before .before .args in
-    laid (a .has) (b .if1 .taken) 6 (a .src .now) (a .dst .now) (a .from) (a .to) (x .six .ensures) (put .put-at .ensures)
+    laid (a .has) (b .if1 .taken) 6 (a .src .now) (a .dst .now) (a .from) (a .to) (x .color-of .ensures) (put .put-at .ensures)
 
 pub move-color-spec : {M : Type 1} → statement M
 move-color-spec =

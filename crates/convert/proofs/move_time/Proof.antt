@@ -1,31 +1,15 @@
-use mathlib.Core.Path.{ap, _∙_}
-use native.Mathlib.Omega.{arith}
 use borrow.Author.Needs.{needs}
-use lib.ListN.{length}
-use Rattle.convert.proofs.Part.{there, piece-length, laid}
 use Rattle.convert.proofs.move_time.Statement.{statement}
 use Rattle.convert.proofs.move_time.Tie as tie
 
-put-at-requires : tie.Need-put-at-requires
-put-at-requires c κs =
-    let x = c .before .before in
-    let b = x .before .before in
-    let s = b .before .before .before in
-    let a = s .args in
-    omega (arith, ap length (x .eight .ensures) ∙ piece-length (a .has) (b .if1 .taken) 8 (a .src .now) (a .from) (s .pre .0), there (a .has) (b .if1 .taken) 8 (a .dst .now) (a .to) (s .pre .1))
+move-eight-requires : tie.Need-move-eight-requires
+move-eight-requires c κs = let b = c .before in rw (b .if1 .taken) at (b .before .before .before .pre)
 
 returns : tie.Need-returns
 returns c =
-    let put = c .before .before in
-    let x = put .before .before .before in
-    let b = x .before .before in
-    let a = b .before .before .before .args in
-    laid (a .has) (b .if1 .taken) 8 (a .src .now) (a .dst .now) (a .from) (a .to) (x .eight .ensures) (put .put-at .ensures)
+    let moved = c .before .before in
+    rw (moved .before .before .if1 .taken) (moved .move-eight .ensures)
 
 pub move-time-spec : {M : Type 1} → statement M
 move-time-spec =
-    tie.close
-    (tie.spec
-    (λ c. search needs) (λ c. search needs) (λ c. search needs)
-    (λ c. let s = c .before .before .before in there (s .args .has) (c .if1 .taken) 8 (s .args .src .now) (s .args .from) (s .pre .0))
-    (λ c κs. search needs) (λ c. search needs) put-at-requires (λ c. search needs) returns (λ c. search needs))
+    tie.close (tie.spec move-eight-requires (λ c. search needs) returns (λ c. search needs))

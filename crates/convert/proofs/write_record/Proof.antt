@@ -5,8 +5,8 @@ use mathlib.Core.Bool.{Bool, true, false, cond}
 use mathlib.Core.List.{List}
 use native.Mathlib.Omega.{arith}
 use borrow.Author.Needs.{needs}
-use lib.ListN.{length, take, length-drop}
-use lib.Seq.{sets, length-take-le}
+use lib.ListN.{length, take, drop, length-drop}
+use lib.Seq.{sets}
 use Rattle.le.specs.Le.{Bytes}
 use Rattle.format.specs.declared.Format.{Format}
 use Rattle.format.specs.declared.Field.the-variants.{GpsTime}
@@ -28,34 +28,53 @@ module _ (s : tie.Start) where
   room : recordBytes (s .args .plan .target) ≤ length (s .args .dst .now)
   room = omega (arith, len-is (s .args .plan .target) (s .args .plan .«target_length») (s .pre .0 .into), s .pre .2)
 
-  front-there : length (take 14 (s .args .src .now)) ≡ 14
-  front-there = length-take-le 14 (s .args .src .now) (omega (arith, size, record-sum (s .args .plan .source)))
+  front-there : 16 ≤ length (s .args .src .now)
+  front-there = omega (arith, size, record-sum (s .args .plan .source))
+
+  front-room : 16 ≤ length (s .args .dst .now)
+  front-room = omega (arith, room, record-sum (s .args .plan .target))
 
 is-bytes : (x : tie.After-shared-slice-known) → Bytes (x .before .args .src .now)
 is-bytes x k = omega (arith, x .shared-slice-known .given k)
 
-put-at-requires : tie.Need-put-at-requires
-put-at-requires c κs =
-    let front = c .before .before in
-    let s = front .before .before .before .before .before .before in
-    omega (arith, ap length (front .fourteen .ensures) ∙ front-there s, room s, record-sum (s .args .plan .target))
+move-eight-requires : tie.Need-move-eight-requires
+move-eight-requires c κs =
+    let s = c .before .before .before .before .before in
+    (omega (arith, front-there s), omega (arith, front-room s))
 
 -- what is written leaves the destination's length
-module _ (x : tie.After-put-at) where
+module _ (x : tie.After-move-eight) where
   abbrev known : tie.After-shared-slice-known
-  known = x .before .before .before .before .before .before .before .before
+  known = x .before .before .before .before .before
 
-  front-length : length (x .put-at .last .0) ≡ length (known .before .args .dst .now)
-  front-length = kept-length (known .before .args .dst .now) 0 (x .before .before .before .fourteen .result) (x .put-at .ensures)
+  abbrev begun : tie.Start
+  begun = known .before
+
+  first-length : length (x .move-eight .last .1 .1 .0) ≡ length (begun .args .dst .now)
+  first-length = kept-length (begun .args .dst .now) 0 (take 8 (begun .args .src .now)) (x .move-eight .ensures)
+
+move-eight-requires-2 : tie.Need-move-eight-requires-2
+move-eight-requires-2 c κs =
+    let x = c .before .before .before in
+    (front-there (begun x), omega (arith, first-length x, front-room (begun x)))
+
+module _ (x : tie.After-move-eight2) where
+  abbrev at-first : tie.After-move-eight
+  at-first = x .before .before .before .before
+
+  front-length : length (x .move-eight2 .last .1 .1 .0) ≡ length (begun at-first .args .dst .now)
+  front-length =
+      kept-length (at-first .move-eight .last .1 .1 .0) 8 (take 8 (drop 8 (begun at-first .args .src .now))) (x .move-eight2 .ensures)
+      ∙ first-length at-first
 
 module _ (x : tie.After-write-middle) where
-  abbrev at-front : tie.After-put-at
+  abbrev at-front : tie.After-move-eight2
   at-front = x .before .before .before .before
 
-  middle-length : length (x .write-middle .last .1 .1 .0) ≡ length (known at-front .before .args .dst .now)
+  middle-length : length (x .write-middle .last .1 .1 .0) ≡ length (begun (at-first at-front) .args .dst .now)
   middle-length =
-      let a = known at-front .before .args in
-      kept-length (at-front .put-at .last .0) 14 (middleOf (a .up) (a .src .now)) (x .write-middle .ensures)
+      let a = begun (at-first at-front) .args in
+      kept-length (at-front .move-eight2 .last .1 .1 .0) 14 (middleOf (a .up) (a .src .now)) (x .write-middle .ensures)
       ∙ front-length at-front
 
 -- what stands before the time is there on both sides
@@ -66,10 +85,10 @@ core-there false a b mates m n e l = (omega (arith, record-sum a, ap {B = ℕ} (
 write-middle-requires : tie.Need-write-middle-requires
 write-middle-requires c κs =
     let x = c .before .before .before in
-    let s = known x .before in
+    let s = begun (at-first x) in
     let a = s .args in
     let core = core-there (a .up) (a .plan .source) (a .plan .target) (s .pre .0 .mates) (length (a .src .now)) (length (a .dst .now)) (size s) (room s) in
-    (core .0, rw (front-length x) (core .1), middle-goes (a .up) (a .plan) (s .pre .0 .mates) (a .src .now) (is-bytes (known x)) (size s) (s .pre .3))
+    (core .0, rw (front-length x) (core .1), middle-goes (a .up) (a .plan) (s .pre .0 .mates) (a .src .now) (is-bytes (known (at-first x))) (size s) (s .pre .3))
 
 -- both formats have the same pieces
 same-pieces : (up : Bool) (a b : Format) → Mates up a b → (b .«has_gps_time» ≡ a .«has_gps_time») × (b .«has_color» ≡ a .«has_color») × (b .«has_waveform» ≡ a .«has_waveform»)
@@ -79,7 +98,7 @@ same-pieces false a b mates = (sym (mates .time), sym (mates .color), sym (mates
 move-rest-requires : tie.Need-move-rest-requires
 move-rest-requires c κs =
     let x = c .before .before .before in
-    let s = known (at-front x) .before in
+    let s = begun (at-first (at-front x)) in
     let a = s .args in
     let same = same-pieces (a .up) (a .plan .source) (a .plan .target) (s .pre .0 .mates) in
     let waveform = ap {B = ℕ} (λ (h : Bool). cond h 29 0) (same .2) in (
@@ -93,17 +112,17 @@ returns : tie.Need-returns
 returns c =
     let rest = c .before .before in
     let middle = rest .before .before .before .before in
-    let front = at-front middle in
-    let s = known front .before in
+    let second = at-front middle in
+    let first = at-first second in
+    let s = begun first in
     let a = s .args in
     rest .move-rest .ensures
     ∙ ap (λ (d : List ℕ). sets d (placeOf (a .plan .target) GpsTime) (restFrom (a .plan .source) (a .plan .target) (a .src .now))) (middle .write-middle .ensures
-    ∙ ap (λ (d : List ℕ). sets d 14 (middleOf (a .up) (a .src .now))) (front .put-at .ensures
-    ∙ ap (sets (a .dst .now) 0) (front .before .before .before .fourteen .ensures)))
-    ∙ image-laid (a .up) (a .plan) (s .pre .0) (a .src .now) (s .pre .1) (s .pre .3) (is-bytes (known front)) (a .dst .now) (s .pre .2)
+    ∙ ap (λ (d : List ℕ). sets d 14 (middleOf (a .up) (a .src .now))) (second .move-eight2 .ensures
+    ∙ ap (λ (d : List ℕ). sets d 8 (take 8 (drop 8 (a .src .now)))) (first .move-eight .ensures)))
+    ∙ image-laid (a .up) (a .plan) (s .pre .0) (a .src .now) (s .pre .1) (s .pre .3) (is-bytes (known first)) (a .dst .now) (s .pre .2)
 
 pub write-record-spec : {M : Type 1} → statement M
 write-record-spec =
     tie.close
-    (tie.spec
-    (λ c. sym (front-there (c .before .before .before .before .before))) (λ c κs. front-there (c .before .before .before .before .before)) (λ c. search needs) put-at-requires write-middle-requires move-rest-requires (λ c. search needs) returns)
+    (tie.spec move-eight-requires move-eight-requires-2 write-middle-requires move-rest-requires (λ c. search needs) returns)

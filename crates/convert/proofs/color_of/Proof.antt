@@ -4,8 +4,8 @@ use native.Mathlib.Omega.{arith}
 use borrow.Author.Needs.{needs}
 use Rattle.le.specs.Le.{bytes}
 use Rattle.convert.proofs.Part.{part}
-use Rattle.convert.proofs.six.Statement.{statement}
-use Rattle.convert.proofs.six.Tie as tie
+use Rattle.convert.proofs.color_of.Statement.{statement}
+use Rattle.convert.proofs.color_of.Tie as tie
 
 returns : tie.Need-returns
 returns c =
@@ -15,8 +15,8 @@ returns c =
     (λ i. bytes 4 (first .u32-at .ensures i) ++ bytes 2 (c .u16-at .ensures i))
     ∙ part 4 (2 ∷ []) (s .args .part .now) (λ k. omega (arith, known .shared-slice-known .given k)) (s .pre)
 
-pub six-spec : {M : Type 1} → statement M
-six-spec =
+pub color-of-spec : {M : Type 1} → statement M
+color-of-spec =
     tie.close
     (tie.spec
     (λ c κs. search needs) (λ c κs. search needs) (λ c. search needs) (λ c. search needs) (λ c. search needs) (λ c. search needs) (λ c. search needs) (λ c. search needs) returns)
