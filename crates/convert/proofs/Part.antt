@@ -5,7 +5,7 @@ use mathlib.Core.Bool.{Bool, true, cond}
 use mathlib.Core.List.{List, _++_}
 use native.Mathlib.Omega.{arith}
 use lib.ListN.{length, take, drop, length-drop}
-use lib.Seq.{sets, length-sets, length-take-le, take-all}
+use lib.Seq.{sets, length-take-le, take-all}
 use Rattle.le.specs.Le.{num, bytes, Bytes}
 use Rattle.le.specs.Laws.{total, spanFrom, span-num, bytes-drop, bytes-num, num-take}
 
@@ -18,10 +18,6 @@ pub moved : (w from : ℕ) (s : List ℕ) → Bytes s → from + w ≤ length s 
 moved w from s all h =
     let cut : from + w - from ≡ w = omega arith in
     rw (cut, num-take w 0 (drop from s) w (omega arith)) (bytes-num w 0 (drop from s) (bytes-drop from s all) (simp length-drop (omega arith)))
-
--- stores leave the length
-pub kept-length : (d : List ℕ) (at : ℕ) (bs : List ℕ) {e : List ℕ} → e ≡ sets d at bs → length e ≡ length d
-kept-length d at bs h = ap length h ∙ length-sets d at bs
 
 -- a piece of n bytes, where the formats have it: it is there, has its length, and is laid
 module _ (has : Bool) (is : has ≡ true) (n : ℕ) where

@@ -12,7 +12,7 @@ use Rattle.le.specs.Le.{Bytes}
 use Rattle.lent.specs.Laws.{sets-append, whole as laid}
 use Rattle.format.specs.declared.Format.{Format}
 use Rattle.format.specs.declared.FormatLen.the-variants as len
-use Rattle.format.specs.declared.Field.the-variants.{GpsTime, ExtraBytes}
+use Rattle.format.specs.declared.Field.the-variants.{PointSourceId, ExtraBytes}
 use Rattle.format.specs.Fields.{restOf, placeOf, sizes, recordBytes, lenOf}
 use Rattle.format.specs.Laws.{further, rest-sum, record-sum, len-is}
 use Rattle.point.specs.declared.Point.{Point}
@@ -34,7 +34,7 @@ use Rattle.judge.specs.declared.Judged.the-variants as judged
 use Rattle.judge.specs.Judge.{judgedBy, judgeRun, recordsOf, judgedOf, verdictOn, verdictBy}
 use Rattle.convert.specs.Run.{turnedOf, imageOf, imagesOf, ran, convertedOf, convertedBy, doneOf}
 use Rattle.convert.specs.Asked.{Takes, TakesRun}
-use Rattle.convert.specs.Moved.{middleOf, restFrom, image-moved, middle-goes, middle-end}
+use Rattle.convert.specs.Moved.{middleOf, restFrom, image-moved, flags-fit, middle-end}
 
 -- a store leaves those past it as they come
 set-before : (d y : List ℕ) (i j b : ℕ) → i < j → set (sets d j y) i b ≡ sets (set d i b) j y
@@ -85,15 +85,15 @@ module _ (up : Bool) (p : Plan) (sound : Sound up p) (s : List ℕ) (whole : len
   image-length = taken-length (p .target) _ _ (p .«target_length») (sound .into) extra-kept takes
 
   -- laid piece by piece, it is the image at the front
-  pub image-laid : Bytes s → (d : List ℕ) → p .«target_length» ≤ length d → sets (sets (sets (sets d 0 (take 8 s)) 8 (take 8 (drop 8 s))) 14 (middleOf up s)) (placeOf (p .target) GpsTime) (restFrom (p .source) (p .target) s) ≡ imageOf up p s ++ drop (p .«target_length») d
+  pub image-laid : Bytes s → (d : List ℕ) → p .«target_length» ≤ length d → sets (sets (sets (sets d 0 (take 8 s)) 8 (take 8 (drop 8 s))) 14 (middleOf up s)) (placeOf (p .target) PointSourceId) (restFrom (p .source) (p .target) s) ≡ imageOf up p s ++ drop (p .«target_length») d
   image-laid all d room =
       let size : recordBytes (p .source) ≡ length s = sym (len-is (p .source) (p .«source_length») (sound .from)) ∙ sym whole in
       let long : 20 ≤ length s = omega (arith, record-sum (p .source)) in
-      let goes = middle-goes up p (sound .mates) s all size takes in
-      let end = middle-end up (p .source) (p .target) (sound .mates) s goes in
+      let fit = flags-fit up p (sound .mates) s all size takes in
+      let end = middle-end up (p .source) (p .target) (sound .mates) s fit in
       let rest = restFrom (p .source) (p .target) s in
-      let after : 2 ≤ length (middleOf up s) = omega (arith, end, further 20 (p .target .«is_extended»)) in
-      ap (λ (e : List ℕ). sets e (placeOf (p .target) GpsTime) rest) (front-laid s (middleOf up s) d (omega arith) after)
+      let after : 2 ≤ length (middleOf up s) = omega (arith, end, further 18 (p .target .«is_extended»)) in
+      ap (λ (e : List ℕ). sets e (placeOf (p .target) PointSourceId) rest) (front-laid s (middleOf up s) d (omega arith) after)
       ∙ sym
       (ap (sets d 0) (image-moved up p (sound .mates) s all size takes) ∙ sets-append d (take 14 s) (middleOf up s ++ rest) 0
       ∙ rw (length-take-le 14 s (omega arith), zero-add) (sets-append (sets d 0 (take 14 s)) (middleOf up s) rest 14 ∙ rw end))

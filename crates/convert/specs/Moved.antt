@@ -1,9 +1,9 @@
 -- An image, byte by byte: flags and angle are made anew, a near infrared comes as 0 or goes, and all else is moved from its place in
 -- the source to its place in the target. That these are the bytes which the writer makes of what the reader answers is `image-moved`.
-use Prim.Native.Nat.{ℕ, _+_, _≤_}
+use Prim.Native.Nat.{ℕ, _+_, _-_, _≤_}
 use mathlib.Core.Path.{_≡_, refl, ap, sym, _∙_}
 use mathlib.Core.Bool.{Bool, true, false, cond}
-use mathlib.Core.List.{List, _∷_, _++_}
+use mathlib.Core.List.{List, [], _∷_, _++_}
 use native.Mathlib.Omega.{arith}
 use lib.ListN.{length, take, drop, length-drop}
 use lib.Seq.{sets, take-all, take-at, drop-at, drop-drop, length-take-le}
@@ -13,8 +13,11 @@ use Rattle.le.specs.Le.{num, bytes, Bytes}
 use Rattle.le.specs.Laws.{num-take}
 use Rattle.lent.specs.Laws.{sets-append}
 use Rattle.format.specs.declared.Format.{Format}
-use Rattle.format.specs.declared.Field.the-variants.{GpsTime, Color, Nir, Waveform, ExtraBytes}
+use Rattle.format.specs.declared.Field.the-variants.{PointSourceId, GpsTime, Color, Nir, Waveform, ExtraBytes}
 use Rattle.format.specs.Fields.{restOf, placeOf, recordBytes}
+use Rattle.format.specs.Laws.{after-source}
+use Rattle.layout.specs.declared.Places.{Places}
+use Rattle.layout.specs.Layout.{placesOf}
 use Rattle.flags.specs.declared.Flags.the-variants.{TwoByte, ThreeByte}
 use Rattle.flags.specs.declared.TwoBytes.{TwoBytes}
 use Rattle.flags.specs.declared.TwoBytes.the-variants as two
@@ -25,7 +28,7 @@ use Rattle.point.specs.declared.Point.{Point}
 use Rattle.point.specs.Read.{flagsAt, angleAt, fieldOf, pointOf}
 use Rattle.point_bytes.specs.Bytes.{timeBytes, colorBytes, nirBytes, waveformBytes, threeList, coreOf, legacyCoreOf}
 use Rattle.point_write.specs.Write.{twoList, joined, recordOf, onlyBytes}
-use Rattle.point_write.specs.Laws.{rest-is, extended-is, legacy-is, time-length, color-length, nir-length, core-length, legacy-core-length}
+use Rattle.point_write.specs.Laws.{rest-is, extended-is, legacy-is, time-length, color-length, nir-length}
 use Rattle.point_write.specs.Theorems.{read-then-written}
 use Rattle.strict.specs.Upgrade.{upgradedFlags, upgradedOld, upgradedBy, upgradedOf}
 use Rattle.pairs.specs.declared.Plan.{Plan}
@@ -33,50 +36,65 @@ use Rattle.pairs.specs.Paired.{Paired, Mates}
 use Rattle.convert.specs.Run.{turnedOf, imageOf}
 use Rattle.convert.specs.Asked.{Takes}
 
--- flags, angle, user data and source id of the old record, from the bytes of the new one, and the other way round
+-- flags, angle and user data of the old record, from the bytes of the new one, and the other way round
 abbrev pub twoOf : List ℕ → TwoBytes
 twoOf s = twoBytesOf (ThreeByte (num 1 14 s) (num 1 15 s) (num 1 16 s))
 
 unfoldable pub oldMiddle : List ℕ → List ℕ
-oldMiddle s = twoList (twoOf s) ++ (ofZ w8 (toRank (Scaled (toZ w16 (num 2 18 s)))) ∷ num 1 17 s ∷ bytes 2 (num 2 20 s))
+oldMiddle s = twoList (twoOf s) ++ (ofZ w8 (toRank (Scaled (toZ w16 (num 2 18 s)))) ∷ num 1 17 s ∷ [])
 
 unfoldable pub newMiddle : List ℕ → List ℕ
 newMiddle s =
     threeList (threeBytesOf (upgradedFlags (TwoByte (num 1 14 s) (num 1 15 s))))
-    ++ (num 1 17 s ∷ (bytes 2 (ofZ w16 (toScaled (Rank (toZ w8 (num 1 16 s))))) ++ bytes 2 (num 2 18 s)))
+    ++ (num 1 17 s ∷ bytes 2 (ofZ w16 (toScaled (Rank (toZ w8 (num 1 16 s))))))
 
 abbrev pub middleOf : Bool → List ℕ → List ℕ
 middleOf true s = newMiddle s
 middleOf false s = oldMiddle s
 
 -- on the way down the flags have two bytes
-abbrev pub Middle : Bool → List ℕ → Type 0
-Middle true s = Unit
-Middle false s = (x : ℕ) × (y : ℕ) × (twoOf s ≡ two.Bytes x y)
+abbrev pub FlagsFit : Bool → List ℕ → Type 0
+FlagsFit true s = Unit
+FlagsFit false s = (x : ℕ) × (y : ℕ) × (twoOf s ≡ two.Bytes x y)
 
--- what stands after the source id
+-- the source id and what stands after it, from the places of the source
+abbrev pub lastAt : Format → Places → Format → List ℕ → List ℕ
+lastAt a from b s =
+    take (cond (a .«has_color») 6 0) (drop (from .color) s) ++ (onlyBytes (b .«has_nir») (bytes 2 0) ++ drop (from .waveform) s)
+
+abbrev pub restAt : Format → Places → Format → List ℕ → List ℕ
+restAt a from b s =
+    take 2 (drop (from .«point_source_id») s)
+    ++ (take (cond (a .«has_gps_time») 8 0) (drop (from .«gps_time») s) ++ lastAt a from b s)
+
 abbrev pub restFrom : Format → Format → List ℕ → List ℕ
-restFrom a b s =
-    take (cond (a .«has_gps_time») 8 0) (drop (placeOf a GpsTime) s)
-    ++ (take (cond (a .«has_color») 6 0) (drop (placeOf a Color) s) ++ (onlyBytes (b .«has_nir») (bytes 2 0) ++ drop (placeOf a Waveform) s))
+restFrom a b s = restAt a (placesOf a) b s
+
+-- what it takes of the formats
+abbrev pub Alike : Format → Format → Type 0
+Alike a b = (b .«has_gps_time» ≡ a .«has_gps_time») × (b .«has_color» ≡ a .«has_color») × (b .«has_waveform» ≡ a .«has_waveform»)
+
+pub alike : (up : Bool) (a b : Format) → Mates up a b → Alike a b
+alike true a b mates = (mates .time, mates .color, mates .waveform)
+alike false a b mates = (sym (mates .time), sym (mates .color), sym (mates .waveform))
 
 -- the whole
 abbrev pub movedOf : Bool → Plan → List ℕ → List ℕ
 movedOf up p s = take 14 s ++ (middleOf up s ++ restFrom (p .source) (p .target) s)
 
--- the middle is made of the bytes before the time
-pub old-taken : (s : List ℕ) → oldMiddle (take 22 s) ≡ oldMiddle s
+-- the middle is made of the bytes before the source id
+pub old-taken : (s : List ℕ) → oldMiddle (take 20 s) ≡ oldMiddle s
 unfolding oldMiddle
 old-taken s =
-    rw (num-take 1 14 s 22 (omega arith), num-take 1 15 s 22 (omega arith), num-take 1 16 s 22 (omega arith), num-take 1 17 s 22 (omega arith), num-take 2 18 s 22 (omega arith), num-take 2 20 s 22 (omega arith))
-
-pub new-taken : (s : List ℕ) → newMiddle (take 20 s) ≡ newMiddle s
-unfolding newMiddle
-new-taken s =
     rw (num-take 1 14 s 20 (omega arith), num-take 1 15 s 20 (omega arith), num-take 1 16 s 20 (omega arith), num-take 1 17 s 20 (omega arith), num-take 2 18 s 20 (omega arith))
 
-pub two-taken : (s : List ℕ) → twoOf (take 22 s) ≡ twoOf s
-two-taken s = rw (num-take 1 14 s 22 (omega arith), num-take 1 15 s 22 (omega arith), num-take 1 16 s 22 (omega arith))
+pub new-taken : (s : List ℕ) → newMiddle (take 18 s) ≡ newMiddle s
+unfolding newMiddle
+new-taken s =
+    rw (num-take 1 14 s 18 (omega arith), num-take 1 15 s 18 (omega arith), num-take 1 16 s 18 (omega arith), num-take 1 17 s 18 (omega arith))
+
+pub two-taken : (s : List ℕ) → twoOf (take 20 s) ≡ twoOf s
+two-taken s = rw (num-take 1 14 s 20 (omega arith), num-take 1 15 s 20 (omega arith), num-take 1 16 s 20 (omega arith))
 
 -- a piece of n bytes at a place, and what stands after it
 piece : (s x y : List ℕ) (at n : ℕ) → drop at s ≡ x ++ y → length x ≡ n → (take n (drop at s) ≡ x) × (drop (at + n) s ≡ y)
@@ -86,15 +104,21 @@ only-length : (b : Bool) (bs : List ℕ) (n : ℕ) → length bs ≡ n → lengt
 only-length true bs n h = h
 only-length false bs n h = refl
 
--- the bytes before the flags, and the others before the time
+-- the bytes before the flags, and those made anew
 abbrev front : Point → List ℕ
 front p = bytes 4 (ofZ w32 (p .x)) ++ (bytes 4 (ofZ w32 (p .y)) ++ (bytes 4 (ofZ w32 (p .z)) ++ bytes 2 (p .intensity)))
 
-new-split : (p : Point) (rest : List ℕ) → coreOf p ++ rest ≡ front p ++ ((threeList (threeBytesOf (p .flags)) ++ (p .«user_data» ∷ (bytes 2 (ofZ w16 (toScaled (p .«scan_angle»))) ++ bytes 2 (p .«point_source_id»)))) ++ rest)
+abbrev newMade : Point → List ℕ
+newMade p = threeList (threeBytesOf (p .flags)) ++ (p .«user_data» ∷ bytes 2 (ofZ w16 (toScaled (p .«scan_angle»))))
+
+abbrev oldMade : Point → ℕ → ℕ → List ℕ
+oldMade p x y = x ∷ y ∷ ofZ w8 (toRank (p .«scan_angle»)) ∷ p .«user_data» ∷ []
+
+new-split : (p : Point) (rest : List ℕ) → coreOf p ++ rest ≡ front p ++ (newMade p ++ (bytes 2 (p .«point_source_id») ++ rest))
 unfolding coreOf
 new-split p rest = refl
 
-old-split : (p : Point) (x y : ℕ) (rest : List ℕ) → legacyCoreOf p x y ++ rest ≡ front p ++ ((x ∷ y ∷ ofZ w8 (toRank (p .«scan_angle»)) ∷ p .«user_data» ∷ bytes 2 (p .«point_source_id»)) ++ rest)
+old-split : (p : Point) (x y : ℕ) (rest : List ℕ) → legacyCoreOf p x y ++ rest ≡ front p ++ (oldMade p x y ++ (bytes 2 (p .«point_source_id») ++ rest))
 unfolding legacyCoreOf
 old-split p x y rest = refl
 
@@ -112,19 +136,24 @@ module _ (a : Format) (s : List ℕ) (all : Bytes s) (whole : recordBytes a ≡ 
   itself : recordOf a point extra ≡ s
   itself = read-then-written a s all (omega arith) ∙ take-all (recordBytes a) s (omega arith)
 
-  -- the pieces after the source id are moved, whatever stands before them
-  module _ (b : Format) (q : Point) (core : List ℕ) (before : s ≡ core ++ rest) (long : length core ≡ placeOf a GpsTime) where
-    rest-moved : b .«has_gps_time» ≡ a .«has_gps_time» → b .«has_color» ≡ a .«has_color» → b .«has_waveform» ≡ a .«has_waveform» → q .«gps_time» ≡ point .«gps_time» → q .color ≡ point .color → q .waveform ≡ point .waveform → onlyBytes (b .«has_nir») (nirBytes (q .nir)) ≡ onlyBytes (b .«has_nir») (bytes 2 0) → joined b q extra (restOf b) ≡ restFrom a b s
-    rest-moved time color waveform same-time same-color same-waveform nir =
+  -- the source id and the pieces after it are moved, whatever stands before them
+  module _ (b : Format) (q : Point) (core : List ℕ) (before : s ≡ core ++ (bytes 2 (point .«point_source_id») ++ rest)) (long : length core ≡ placeOf a PointSourceId) where
+    rest-moved : Alike a b → q .«point_source_id» ≡ point .«point_source_id» → q .«gps_time» ≡ point .«gps_time» → q .color ≡ point .color → q .waveform ≡ point .waveform → onlyBytes (b .«has_nir») (nirBytes (q .nir)) ≡ onlyBytes (b .«has_nir») (bytes 2 0) → bytes 2 (q .«point_source_id») ++ joined b q extra (restOf b) ≡ restFrom a b s
+    unfolding placesOf
+    rest-moved same same-id same-time same-color same-waveform nir =
+        let i : List ℕ = bytes 2 (point .«point_source_id») in
         let t : List ℕ = onlyBytes (a .«has_gps_time») (timeBytes (point .«gps_time»)) in
         let c : List ℕ = onlyBytes (a .«has_color») (colorBytes (point .color)) in
         let n : List ℕ = onlyBytes (a .«has_nir») (nirBytes (point .nir)) in
         let w : List ℕ = onlyBytes (a .«has_waveform») (waveformBytes (point .waveform)) ++ extra in
-        let here : drop (placeOf a GpsTime) s ≡ t ++ (c ++ (n ++ w)) = ap (drop (placeOf a GpsTime)) before ∙ drop-at core rest _ long ∙ rest-is a point extra in
-        let of-time = piece s t (c ++ (n ++ w)) (placeOf a GpsTime) (cond (a .«has_gps_time») 8 0) here (only-length (a .«has_gps_time») _ 8 (time-length a point extra (point .«gps_time»))) in
+        let here : drop (placeOf a PointSourceId) s ≡ i ++ (t ++ (c ++ (n ++ w))) = ap (drop (placeOf a PointSourceId)) before ∙ drop-at core (i ++ rest) _ long ∙ ap (λ (l : List ℕ). i ++ l) (rest-is a point extra) in
+        let of-id = piece s i (t ++ (c ++ (n ++ w))) (placeOf a PointSourceId) 2 here refl in
+        let after : drop (placeOf a GpsTime) s ≡ t ++ (c ++ (n ++ w)) = ap (λ (k : ℕ). drop k s) (after-source (a .«is_extended»)) ∙ of-id .1 in
+        let of-time = piece s t (c ++ (n ++ w)) (placeOf a GpsTime) (cond (a .«has_gps_time») 8 0) after (only-length (a .«has_gps_time») _ 8 (time-length a point extra (point .«gps_time»))) in
         let of-color = piece s c (n ++ w) (placeOf a Color) (cond (a .«has_color») 6 0) (of-time .1) (only-length (a .«has_color») _ 6 (color-length a point extra (point .color))) in
         let of-nir = piece s n w (placeOf a Nir) (cond (a .«has_nir») 2 0) (of-color .1) (only-length (a .«has_nir») _ 2 (nir-length a point extra (point .nir))) in
-        rest-is b q extra ∙ rw (time, color, waveform, same-time, same-color, same-waveform, nir, of-time .0, of-color .0, of-nir .1)
+        ap (λ (l : List ℕ). bytes 2 (q .«point_source_id») ++ l) (rest-is b q extra)
+        ∙ rw (same .0, same .1, same .2, same-id, same-time, same-color, same-waveform, nir, of-id .0, of-time .0, of-color .0, of-nir .1)
 
   -- down: the new record's fields, and the old record that says the same
   module _ (b : Format) (pair : Paired a b) (x y : ℕ) (is-two : twoBytesOf (point .flags) ≡ two.Bytes x y) where
@@ -135,18 +164,17 @@ module _ (a : Format) (s : List ℕ) (all : Bytes s) (whole : recordBytes a ≡ 
     pub goes : twoOf s ≡ two.Bytes x y
     goes = ap twoBytesOf (sym new-flags) ∙ is-two
 
-    old-made : x ∷ y ∷ ofZ w8 (toRank (point .«scan_angle»)) ∷ point .«user_data» ∷ bytes 2 (point .«point_source_id») ≡ oldMiddle s
+    old-made : oldMade point x y ≡ oldMiddle s
     unfolding oldMiddle pointOf angleAt
     old-made = rw (goes, pair .is-new)
 
     old-moved : recordOf b point extra ≡ take 14 s ++ (oldMiddle s ++ restFrom a b s)
     old-moved =
-        let before : s ≡ coreOf point ++ rest = sym itself ∙ extended-is a point extra (pair .is-new) in
-        let long : length (coreOf point) ≡ placeOf a GpsTime = core-length a point extra ∙ sym (ap (λ (c : Bool). cond c 22 20) (pair .is-new)) in
-        let moved = rest-moved b point (coreOf point) before long (sym (pair .time)) (sym (pair .color)) (sym (pair .waveform)) refl refl refl (rw (pair .no-nir)) in
-        let first : take 14 s ≡ front point = ap (take 14) (before ∙ new-split point rest) in
+        let before : s ≡ front point ++ (newMade point ++ (bytes 2 (point .«point_source_id») ++ rest)) = sym itself ∙ extended-is a point extra (pair .is-new) ∙ new-split point rest in
+        let long : 20 ≡ placeOf a PointSourceId = sym (ap (λ (c : Bool). cond c 20 18) (pair .is-new)) in
+        let moved = rest-moved b point (front point ++ newMade point) before long (alike false a b pair) refl refl refl refl (rw (pair .no-nir)) in
         legacy-is b point extra x y (pair .is-old) is-two ∙ old-split point x y _
-        ∙ (λ i. sym first i ++ (old-made i ++ moved i))
+        ∙ (λ i. sym (ap (take 14) before) i ++ (old-made i ++ moved i))
 
   -- up: the old record's fields, and the new record that says the same
   module _ (b : Format) (pair : Paired b a) where
@@ -165,23 +193,18 @@ module _ (a : Format) (s : List ℕ) (all : Bytes s) (whole : recordBytes a ≡ 
     unfolding twoBytesOf
     two-bytes = ap twoBytesOf old-flags
 
-    new-made : threeList (threeBytesOf (raised .flags)) ++ (raised .«user_data» ∷ (bytes 2 (ofZ w16 (toScaled (raised .«scan_angle»))) ++ bytes 2 (raised .«point_source_id»))) ≡ newMiddle s
+    new-made : newMade raised ≡ newMiddle s
     unfolding newMiddle upgradedOld pointOf angleAt
     new-made = rw (pair .is-old)
-
-    same-front : front raised ≡ front point
-    unfolding upgradedOld
-    same-front = refl
 
     new-moved : recordOf b (upgradedOf point) extra ≡ take 14 s ++ (newMiddle s ++ restFrom a b s)
     unfolding upgradedOld
     new-moved =
-        let before : s ≡ legacyCoreOf point (num 1 14 s) (num 1 15 s) ++ rest = sym itself ∙ legacy-is a point extra _ _ (pair .is-old) two-bytes in
-        let long : length (legacyCoreOf point (num 1 14 s) (num 1 15 s)) ≡ placeOf a GpsTime = legacy-core-length a point extra _ _ ∙ sym (ap (λ (c : Bool). cond c 22 20) (pair .is-old)) in
-        let moved = rest-moved b raised (legacyCoreOf point (num 1 14 s) (num 1 15 s)) before long (pair .time) (pair .color) (pair .waveform) refl refl refl refl in
-        let first : take 14 s ≡ front point = ap (take 14) (before ∙ old-split point (num 1 14 s) (num 1 15 s) rest) in
+        let before : s ≡ front point ++ (oldMade point (num 1 14 s) (num 1 15 s) ++ (bytes 2 (point .«point_source_id») ++ rest)) = sym itself ∙ legacy-is a point extra _ _ (pair .is-old) two-bytes ∙ old-split point _ _ rest in
+        let long : 18 ≡ placeOf a PointSourceId = sym (ap (λ (c : Bool). cond c 20 18) (pair .is-old)) in
+        let moved = rest-moved b raised (front point ++ oldMade point (num 1 14 s) (num 1 15 s)) before long (alike true a b pair) refl refl refl refl refl in
         ap (λ (q : Point). recordOf b q extra) is-raised ∙ extended-is b raised extra (pair .is-new) ∙ new-split raised _
-        ∙ (λ i. (same-front ∙ sym first) i ++ (new-made i ++ moved i))
+        ∙ (λ i. sym (ap (take 14) before) i ++ (new-made i ++ moved i))
 
 -- the image of a record that the writer takes
 pub image-moved : (up : Bool) (p : Plan) → Mates up (p .source) (p .target) → (s : List ℕ) → Bytes s → recordBytes (p .source) ≡ length s → Takes (p .target) (turnedOf up (pointOf (p .source) s)) → imageOf up p s ≡ movedOf up p s
@@ -192,37 +215,67 @@ image-moved false p mates s all whole takes =
     old-moved (p .source) s all whole (p .target) mates (w .0) (w .1) (w .2)
 
 -- whose flags have two bytes on the way down
-pub middle-goes : (up : Bool) (p : Plan) → Mates up (p .source) (p .target) → (s : List ℕ) → Bytes s → recordBytes (p .source) ≡ length s → Takes (p .target) (turnedOf up (pointOf (p .source) s)) → Middle up s
-middle-goes true p mates s all whole takes = tt
-middle-goes false p mates s all whole takes =
+pub flags-fit : (up : Bool) (p : Plan) → Mates up (p .source) (p .target) → (s : List ℕ) → Bytes s → recordBytes (p .source) ≡ length s → Takes (p .target) (turnedOf up (pointOf (p .source) s)) → FlagsFit up s
+flags-fit true p mates s all whole takes = tt
+flags-fit false p mates s all whole takes =
     let w = takes (mates .is-old) in
     (w .0, w .1, goes (p .source) s all whole (p .target) mates (w .0) (w .1) (w .2))
 
 -- the bytes of the middle
-pub new-length : (s : List ℕ) → length (newMiddle s) ≡ 8
+pub new-length : (s : List ℕ) → length (newMiddle s) ≡ 6
 unfolding newMiddle
 new-length s = refl
 
-pub old-length : (s : List ℕ) → Middle false s → length (oldMiddle s) ≡ 6
+pub old-length : (s : List ℕ) → FlagsFit false s → length (oldMiddle s) ≡ 4
 unfolding oldMiddle
 old-length s m = rw (m .2)
 
 -- the rest stands after it
-pub middle-end : (up : Bool) (a b : Format) → Mates up a b → (s : List ℕ) → Middle up s → 14 + length (middleOf up s) ≡ placeOf b GpsTime
-middle-end true a b mates s m = ap (λ (n : ℕ). 14 + n) (new-length s) ∙ sym (ap (λ (c : Bool). cond c 22 20) (mates .is-new))
-middle-end false a b mates s m = ap (λ (n : ℕ). 14 + n) (old-length s m) ∙ sym (ap (λ (c : Bool). cond c 22 20) (mates .is-old))
+pub middle-end : (up : Bool) (a b : Format) → Mates up a b → (s : List ℕ) → FlagsFit up s → 14 + length (middleOf up s) ≡ placeOf b PointSourceId
+middle-end true a b mates s m = ap (λ (n : ℕ). 14 + n) (new-length s) ∙ sym (ap (λ (c : Bool). cond c 20 18) (mates .is-new))
+middle-end false a b mates s m = ap (λ (n : ℕ). 14 + n) (old-length s m) ∙ sym (ap (λ (c : Bool). cond c 20 18) (mates .is-old))
 
--- the pieces after the source id, laid one after the other at their places in the target
-pub rest-laid : (a b : Format) (s d : List ℕ) → placeOf a Waveform ≤ length s → b .«has_gps_time» ≡ a .«has_gps_time» → b .«has_color» ≡ a .«has_color» → sets (sets (sets (sets d (placeOf b GpsTime) (take (cond (a .«has_gps_time») 8 0) (drop (placeOf a GpsTime) s))) (placeOf b Color) (take (cond (a .«has_color») 6 0) (drop (placeOf a Color) s))) (placeOf b Nir) (onlyBytes (b .«has_nir») (bytes 2 0))) (placeOf b Waveform) (drop (placeOf a Waveform) s) ≡ sets d (placeOf b GpsTime) (restFrom a b s)
-rest-laid a b s d there time color =
-    let t : List ℕ = take (cond (a .«has_gps_time») 8 0) (drop (placeOf a GpsTime) s) in
-    let c : List ℕ = take (cond (a .«has_color») 6 0) (drop (placeOf a Color) s) in
-    let n : List ℕ = onlyBytes (b .«has_nir») (bytes 2 0) in
-    let w : List ℕ = drop (placeOf a Waveform) s in
-    let of-time : length t ≡ cond (b .«has_gps_time») 8 0 = length-take-le _ (drop (placeOf a GpsTime) s) (simp length-drop (omega arith)) ∙ ap (λ (h : Bool). cond h 8 0) (sym time) in
-    let of-color : length c ≡ cond (b .«has_color») 6 0 = length-take-le _ (drop (placeOf a Color) s) (simp length-drop (omega arith)) ∙ ap (λ (h : Bool). cond h 6 0) (sym color) in
-    let of-nir : length n ≡ cond (b .«has_nir») 2 0 = only-length (b .«has_nir») (bytes 2 0) 2 refl in
-    sym
-    (sets-append d t (c ++ (n ++ w)) (placeOf b GpsTime)
-    ∙ rw of-time (sets-append (sets d (placeOf b GpsTime) t) c (n ++ w) (placeOf b Color)
-    ∙ rw of-color (sets-append (sets (sets d (placeOf b GpsTime) t) (placeOf b Color) c) n w (placeOf b Nir) ∙ rw of-nir)))
+-- the places of a format follow each other
+pub places-follow : (f : Format) (p : Places) → p ≡ placesOf f → (p .«gps_time» ≡ p .«point_source_id» + 2) × (p .color ≡ p .«gps_time» + cond (f .«has_gps_time») 8 0) × (p .nir ≡ p .color + cond (f .«has_color») 6 0) × (p .waveform ≡ p .nir + cond (f .«has_nir») 2 0)
+unfolding placesOf
+places-follow f p e = rw e (after-source (f .«is_extended»), refl, refl, refl)
+
+-- the pieces lie in the first n bytes, at these places
+abbrev pub Within : Places → Bool → Bool → Bool → ℕ → Type 0
+Within p time color nir n =
+    (p .«point_source_id» + 2 ≤ n) × (p .«gps_time» + cond time 8 0 ≤ n) × (p .color + cond color 6 0 ≤ n) × (p .nir + cond nir 2 0 ≤ n) × (p .waveform ≤ n)
+
+pub within : (f : Format) (time color : Bool) → f .«has_gps_time» ≡ time → f .«has_color» ≡ color → (p : Places) → p ≡ placesOf f → (n : ℕ) → placeOf f Waveform ≤ n → Within p time color (f .«has_nir») n
+unfolding placesOf
+within f time color is-time is-color p e n h =
+    rw (e, ← is-time, ← is-color) (omega (arith, after-source (f .«is_extended»)), omega arith, omega arith, h, h)
+
+-- a piece right after what is laid already extends it
+extended : (d laid more : List ℕ) (at to : ℕ) {e : List ℕ} → e ≡ sets d at laid → to ≡ at + length laid → sets e to more ≡ sets d at (laid ++ more)
+extended d laid more at to put after = rw (put, after) (sym (sets-append d laid more at))
+
+-- a piece that is there has its length
+took : (s : List ℕ) (at n : ℕ) → at + n ≤ length s → length (take n (drop at s)) ≡ n
+took s at n h = length-take-le n (drop at s) (simp length-drop (omega arith))
+
+-- the source id and the pieces after it, laid one after the other at their places in the target
+module _ (a b : Format) (from to : Places) (is-from : from ≡ placesOf a) (is-to : to ≡ placesOf b) (s d : List ℕ) (there : from .waveform ≤ length s) (same : Alike a b) where
+  pub last-room : (n : ℕ) → placeOf b Waveform + length (drop (placeOf a Waveform) s) ≤ n → to .waveform + length (take (length s - from .waveform) (drop (from .waveform) s)) ≤ n
+  unfolding placesOf
+  last-room n h = rw (is-from, is-to, take-all (length s - placeOf a Waveform) (drop (placeOf a Waveform) s) (simp length-drop (omega arith))) h
+
+  pub rest-laid : {e1 e2 e3 e4 e5 : List ℕ} → e1 ≡ sets d (to .«point_source_id») (take 2 (drop (from .«point_source_id») s)) → e2 ≡ sets e1 (to .«gps_time») (take (cond (a .«has_gps_time») 8 0) (drop (from .«gps_time») s)) → e3 ≡ sets e2 (to .color) (take (cond (a .«has_color») 6 0) (drop (from .color) s)) → e4 ≡ sets e3 (to .nir) (onlyBytes (b .«has_nir») (bytes 2 0)) → e5 ≡ sets e4 (to .waveform) (take (length s - from .waveform) (drop (from .waveform) s)) → e5 ≡ sets d (placeOf b PointSourceId) (restFrom a b s)
+  unfolding placesOf
+  rest-laid {e1} {e2} {e3} {e4} {e5} h1 h2 h3 h4 h5 =
+      let f = places-follow a from is-from in
+      let g = places-follow b to is-to in
+      let t : List ℕ = take (cond (a .«has_gps_time») 8 0) (drop (from .«gps_time») s) in
+      let c : List ℕ = take (cond (a .«has_color») 6 0) (drop (from .color) s) in
+      let n : List ℕ = onlyBytes (b .«has_nir») (bytes 2 0) in
+      let w : List ℕ = drop (from .waveform) s in
+      h5 ∙ ap (sets e4 (to .waveform)) (take-all (length s - from .waveform) w (simp length-drop (omega arith)))
+      ∙ extended e3 n w (to .nir) (to .waveform) h4 (rw (only-length (b .«has_nir») (bytes 2 0) 2 refl) (g .3))
+      ∙ extended e2 c (n ++ w) (to .color) (to .nir) h3 (rw (took s (from .color) (cond (a .«has_color») 6 0) (omega (arith, f .2, f .3)), ← (same .1)) (g .2))
+      ∙ extended e1 t (lastAt a from b s) (to .«gps_time») (to .color) h2 (rw (took s (from .«gps_time») (cond (a .«has_gps_time») 8 0) (omega (arith, f .1, f .2, f .3)), ← (same .0)) (g .1))
+      ∙ extended d (take 2 (drop (from .«point_source_id») s)) (t ++ lastAt a from b s) (to .«point_source_id») (to .«gps_time») h1 (rw (took s (from .«point_source_id») 2 (omega (arith, f .0, f .1, f .2, f .3))) (g .0))
+      ∙ (λ i. sets d (is-to i .«point_source_id») (restAt a (is-from i) b s))

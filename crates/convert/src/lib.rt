@@ -7,7 +7,7 @@ ghost use Prim.Native.Nat.{_+_, _*_, _≤_};
 ghost use lib.ListN.{length, take, drop};
 ghost use lib.Seq.{sets};
 ghost use Rattle.le.specs.Le.{bytes};
-ghost use Rattle.format.specs.declared.Field.the-variants.{GpsTime, Waveform};
+ghost use Rattle.format.specs.declared.Field.the-variants.{PointSourceId, Waveform};
 ghost use Rattle.format.specs.Fields.{placeOf};
 ghost use Rattle.point.specs.Read.{pointOf};
 ghost use Rattle.point_write.specs.Write.{onlyBytes};
@@ -15,7 +15,7 @@ ghost use Rattle.pairs.specs.Sound.{Sound};
 ghost use Rattle.judge.specs.Laws.{Ready};
 ghost use Rattle.convert.specs.Run.{turnedOf, imageOf, imagesOf, doneOf, toOldOf, toNewOf};
 ghost use Rattle.convert.specs.Asked.{Takes, TakesRun};
-ghost use Rattle.convert.specs.Moved.{twoOf, newMiddle, oldMiddle, middleOf, Middle, restFrom};
+ghost use Rattle.convert.specs.Moved.{twoOf, newMiddle, oldMiddle, middleOf, FlagsFit, Alike, restFrom};
 use angle::ScanAngle;
 use flags::Flags;
 use flags::TwoBytes;
@@ -106,8 +106,17 @@ fn put_at(dst: &mut [u8], at: usize, bytes: &[u8])
     lent::put(&mut dst[at..end], bytes);
 }
 
-// Eight bytes from place to place. They are read as a number, which the compiler moves at once: a slice that it can't tell from the
+// Bytes from place to place. They are read as a number, which the compiler moves at once: a slice that it can't tell from the
 // destination it would move byte by byte.
+
+fn move_two(src: &[u8], from: usize, dst: &mut [u8], to: usize)
+    requires { ⌜ (from + 2 ≤ length (now src)) × (to + 2 ≤ length (now dst)) ⌝ }
+    ensures { λ _. ⌜ now (dst .exit) ≡ sets (now (dst .entry)) to (take 2 (drop from (now (src .entry)))) ⌝ }
+{
+    let bytes = le::u16_bytes(le::u16_at(&src[from..from + 2], 0));
+    put_at(dst, to, &bytes);
+}
+
 fn move_eight(src: &[u8], from: usize, dst: &mut [u8], to: usize)
     requires { ⌜ (from + 8 ≤ length (now src)) × (to + 8 ≤ length (now dst)) ⌝ }
     ensures { λ _. ⌜ now (dst .exit) ≡ sets (now (dst .entry)) to (take 8 (drop from (now (src .entry)))) ⌝ }
@@ -164,13 +173,14 @@ fn put_no_nir(dst: &mut [u8], at: usize, has: bool)
     }
 }
 
-// What stands after the source id, from place to place.
+// The source id and what stands after it, from place to place.
 fn move_rest(src: &[u8], source: Format, dst: &mut [u8], target: Format)
-    requires { ⌜ (placeOf source Waveform ≤ length (now src)) × (placeOf target Waveform + length (drop (placeOf source Waveform) (now src)) ≤ length (now dst)) × (target .«has_gps_time» ≡ source .«has_gps_time») × (target .«has_color» ≡ source .«has_color») ⌝ }
-    ensures { λ _. ⌜ now (dst .exit) ≡ sets (now (dst .entry)) (placeOf target GpsTime) (restFrom source target (now (src .entry))) ⌝ }
+    requires { ⌜ (placeOf source Waveform ≤ length (now src)) × (placeOf target Waveform + length (drop (placeOf source Waveform) (now src)) ≤ length (now dst)) × Alike source target ⌝ }
+    ensures { λ _. ⌜ now (dst .exit) ≡ sets (now (dst .entry)) (placeOf target PointSourceId) (restFrom source target (now (src .entry))) ⌝ }
 {
     let from = layout::places_for(source);
     let to = layout::places_for(target);
+    move_two(src, from.point_source_id, dst, to.point_source_id);
     move_time(src, from.gps_time, source.has_gps_time, dst, to.gps_time);
     move_color(src, from.color, source.has_color, dst, to.color);
     put_no_nir(dst, to.nir, target.has_nir);
@@ -178,28 +188,27 @@ fn move_rest(src: &[u8], source: Format, dst: &mut [u8], target: Format)
     put_at(dst, to.waveform, &src[others..]);
 }
 
-// The flags, the angle, the user data and the source id.
+// The flags, the angle and the user data, which are made anew of what stands before the source id.
 fn write_middle(src: &[u8], up: bool, dst: &mut [u8])
-    requires { ⌜ (cond up 20 22 ≤ length (now src)) × (cond up 22 20 ≤ length (now dst)) × Middle up (now src) ⌝ }
+    requires { ⌜ (cond up 18 20 ≤ length (now src)) × (cond up 20 18 ≤ length (now dst)) × FlagsFit up (now src) ⌝ }
     ensures { λ _. ⌜ now (dst .exit) ≡ sets (now (dst .entry)) 14 (middleOf up (now (src .entry))) ⌝ }
 {
     if up {
-        let bytes = new_middle(&src[..20]);
+        let bytes = new_middle(&src[..18]);
         put_at(dst, 14, &bytes);
         return;
     }
-    write_old_middle(&src[..22], dst);
+    write_old_middle(&src[..20], dst);
 }
 
-// Those of an old record made new; `core` is what stands before the time.
-fn new_middle(core: &[u8]) -> [u8; 8]
+// Those of an old record made new.
+fn new_middle(core: &[u8]) -> [u8; 6]
     ensures { λ r. ⌜ r ≡ newMiddle (now (core .entry)) ⌝ }
 {
     let old_flags = Flags::TwoByte(le::u8_at(core, 14), le::u8_at(core, 15));
     let flags = strict::upgraded_flags(old_flags).to_three_bytes();
     let rank = ScanAngle::Rank(le::i8_at(core, 16));
     let angle = signed::bits16(rank.to_scaled());
-    let source = le::u16_at(core, 18);
     [
         flags.a,
         flags.b,
@@ -207,14 +216,12 @@ fn new_middle(core: &[u8]) -> [u8; 8]
         le::u8_at(core, 17),
         (angle % 256) as u8,
         (angle / 256 % 256) as u8,
-        (source % 256) as u8,
-        (source / 256 % 256) as u8,
     ]
 }
 
 // Those of a new record made old. Its flags have two bytes, since the run was judged, so the else is not reached.
 fn write_old_middle(core: &[u8], dst: &mut [u8])
-    requires { ⌜ (20 ≤ length (now dst)) × Middle false (now core) ⌝ }
+    requires { ⌜ (18 ≤ length (now dst)) × FlagsFit false (now core) ⌝ }
     ensures { λ _. ⌜ now (dst .exit) ≡ sets (now (dst .entry)) 14 (oldMiddle (now (core .entry))) ⌝ }
 {
     let flags = Flags::ThreeByte(
@@ -230,19 +237,11 @@ fn write_old_middle(core: &[u8], dst: &mut [u8])
 }
 
 // The same, with the two bytes of flags.
-fn old_middle(core: &[u8], a: u8, b: u8) -> [u8; 6]
+fn old_middle(core: &[u8], a: u8, b: u8) -> [u8; 4]
     requires { ⌜ twoOf (now core) ≡ TwoBytes.Bytes a b ⌝ }
     ensures { λ r. ⌜ r ≡ oldMiddle (now (core .entry)) ⌝ }
 {
     let scan_angle = ScanAngle::Scaled(le::i16_at(core, 18));
     let rank = signed::bits8(scan_angle.to_rank());
-    let source = le::u16_at(core, 20);
-    [
-        a,
-        b,
-        rank,
-        le::u8_at(core, 17),
-        (source % 256) as u8,
-        (source / 256 % 256) as u8,
-    ]
+    [a, b, rank, le::u8_at(core, 17)]
 }

@@ -19,8 +19,7 @@ use Rattle.convert.proofs.new_middle.Tie as tie
 returns : tie.Need-returns
 unfolding newMiddle
 returns c =
-    let source = c .before in
-    let bits = source .before in
+    let bits = c .before in
     let scaled = bits .before in
     let rank = scaled .before in
     let three = rank .before in
@@ -30,12 +29,11 @@ returns c =
     let flags = three .to-three-bytes .ensures ∙ ap threeBytesOf (up .upgraded-flags .ensures ∙ (λ i. upgradedFlags (TwoByte (first .u8-at .ensures i) (second .u8-at2 .ensures i)))) in
     let ranked = kept w8 (rank .i8-at .result) (rank .i8-at .ok) ∙ rank .i8-at .ensures in
     let angle = bits .bits16 .ensures ∙ ap (ofZ w16) (kept w16 (scaled .to-scaled .result) (scaled .to-scaled .ok) ∙ scaled .to-scaled .ensures ∙ ap (λ (k : ℤ). toScaled (Rank k)) ranked) in
-    λ i. threeList (flags i) ++ (c .u8-at3 .ensures i ∷ (bytes 2 (angle i) ++ bytes 2 (source .u16-at .ensures i)))
+    λ i. threeList (flags i) ++ (c .u8-at3 .ensures i ∷ bytes 2 (angle i))
 
 pub new-middle-spec : {M : Type 1} → statement M
 new-middle-spec =
     tie.close
     (tie.spec
     (λ c κs. search needs) (λ c κs. search needs) (λ c κs. search needs) (λ c κs. search needs) (λ c κs. search needs)
-    (λ c κs. search needs) (λ c κs. search needs) (λ c κs. search needs) (λ c κs. search needs) (λ c. search needs)
-    (λ c. search needs) (λ c. search needs) (λ c. search needs) returns)
+    (λ c κs. search needs) (λ c κs. search needs) (λ c κs. search needs) (λ c. search needs) (λ c. search needs) returns)

@@ -1,10 +1,9 @@
 use mathlib.Core.Path.{ap, _∙_}
-use mathlib.Core.List.{_∷_}
+use mathlib.Core.List.{[], _∷_}
 use borrow.Author.Needs.{needs}
 use lib.IntN.{ℤ}
 use mir.Syntax.{w8, w16}
 use mir.Val.{ofZ}
-use Rattle.le.specs.Le.{bytes}
 use Rattle.le.proofs.Twos.{kept}
 use Rattle.angle.specs.declared.ScanAngle.the-variants.{Scaled}
 use Rattle.angle.specs.Angle.{toRank}
@@ -15,17 +14,16 @@ use Rattle.convert.proofs.old_middle.Tie as tie
 returns : tie.Need-returns
 unfolding oldMiddle
 returns c =
-    let source = c .before in
-    let bits = source .before in
+    let bits = c .before in
     let rank = bits .before in
     let angle = rank .before in
     let s = angle .before .before in
     let scaled = kept w16 (angle .i16-at .result) (angle .i16-at .ok) ∙ angle .i16-at .ensures in
     let held = bits .bits8 .ensures ∙ ap (ofZ w8) (kept w8 (rank .to-rank .result) (rank .to-rank .ok) ∙ rank .to-rank .ensures ∙ ap (λ (k : ℤ). toRank (Scaled k)) scaled) in
-    rw (s .pre) (λ i. s .args .a ∷ s .args .b ∷ held i ∷ c .u8-at .ensures i ∷ bytes 2 (source .u16-at .ensures i))
+    rw (s .pre) (λ i. s .args .a ∷ s .args .b ∷ held i ∷ c .u8-at .ensures i ∷ [])
 
 pub old-middle-spec : {M : Type 1} → statement M
 old-middle-spec =
     tie.close
     (tie.spec
-    (λ c κs. search needs) (λ c κs. search needs) (λ c κs. search needs) (λ c κs. search needs) (λ c κs. search needs) (λ c. search needs) (λ c. search needs) returns)
+    (λ c κs. search needs) (λ c κs. search needs) (λ c κs. search needs) (λ c κs. search needs) returns)

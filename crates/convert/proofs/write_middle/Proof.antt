@@ -5,23 +5,23 @@ use native.Mathlib.Omega.{arith}
 use borrow.Author.Needs.{needs}
 use lib.ListN.{length}
 use lib.Seq.{length-take-le}
-use Rattle.convert.specs.Moved.{Middle, two-taken, old-taken, new-taken, new-length}
+use Rattle.convert.specs.Moved.{FlagsFit, two-taken, old-taken, new-taken, new-length}
 use Rattle.convert.proofs.write_middle.Statement.{statement}
 use Rattle.convert.proofs.write_middle.Tie as tie
 
--- what stands before the time is there, and has room
+-- what stands before the source id is there, and has room
 module _ (c : tie.Then1) where
-  new-there : 20 ≤ length (c .before .before .before .args .src .now)
+  new-there : 18 ≤ length (c .before .before .before .args .src .now)
   new-there = rw (c .if1 .taken) at (c .before .before .before .pre .0)
 
-  new-room : 22 ≤ length (c .before .before .before .args .dst .now)
+  new-room : 20 ≤ length (c .before .before .before .args .dst .now)
   new-room = rw (c .if1 .taken) at (c .before .before .before .pre .1)
 
 module _ (c : tie.Else1) where
-  old-there : 22 ≤ length (c .before .before .before .args .src .now)
+  old-there : 20 ≤ length (c .before .before .before .args .src .now)
   old-there = rw (c .if1 .left) at (c .before .before .before .pre .0)
 
-  old-room : 20 ≤ length (c .before .before .before .args .dst .now)
+  old-room : 18 ≤ length (c .before .before .before .args .dst .now)
   old-room = rw (c .if1 .left) at (c .before .before .before .pre .1)
 
 put-at-requires : tie.Need-put-at-requires
@@ -40,7 +40,7 @@ write-old-middle-requires : tie.Need-write-old-middle-requires
 write-old-middle-requires c κs =
     let x = c .before .before in
     let s = x .before .before .before in
-    let m : Middle false (s .args .src .now) = rw (x .if1 .left) at (s .pre .2) in
+    let m : FlagsFit false (s .args .src .now) = rw (x .if1 .left) at (s .pre .2) in
     (old-room x, (m .0, m .1, two-taken (s .args .src .now) ∙ m .2))
 
 returns-2 : tie.Need-returns-2
@@ -53,5 +53,5 @@ pub write-middle-spec : {M : Type 1} → statement M
 write-middle-spec =
     tie.close
     (tie.spec
-    (λ c. sym (length-take-le 20 (c .before .before .before .before .args .src .now) (new-there (c .before)))) (λ c κs. search needs) (λ c. search needs) put-at-requires (λ c. search needs) returns
-    (λ c. sym (length-take-le 22 (c .before .before .before .before .args .src .now) (old-there (c .before)))) write-old-middle-requires (λ c. search needs) returns-2)
+    (λ c. sym (length-take-le 18 (c .before .before .before .before .args .src .now) (new-there (c .before)))) (λ c κs. search needs) (λ c. search needs) put-at-requires (λ c. search needs) returns
+    (λ c. sym (length-take-le 20 (c .before .before .before .before .args .src .now) (old-there (c .before)))) write-old-middle-requires (λ c. search needs) returns-2)
