@@ -2,10 +2,10 @@
 -- the source to its place in the target. That these are the bytes which the writer makes of what the reader answers is `image-moved`.
 use Prim.Native.Nat.{ℕ, _+_, _-_, _≤_}
 use mathlib.Core.Path.{_≡_, refl, ap, sym, _∙_}
-use mathlib.Core.Bool.{Bool, true, false, cond}
+use mathlib.Core.Bool.{Bool, true, false, cond, _&&_}
 use mathlib.Core.List.{List, [], _∷_, _++_}
 use native.Mathlib.Omega.{arith}
-use lib.ListN.{length, take, drop, length-drop}
+use lib.ListN.{length, take, drop, length-append, length-take, length-drop}
 use lib.Seq.{sets, take-all, take-at, drop-at, drop-drop, length-take-le}
 use mir.Syntax.{w8, w16, w32}
 use mir.Val.{ofZ, toZ}
@@ -28,11 +28,12 @@ use Rattle.point.specs.declared.Point.{Point}
 use Rattle.point.specs.Read.{flagsAt, angleAt, fieldOf, pointOf}
 use Rattle.point_bytes.specs.Bytes.{timeBytes, colorBytes, nirBytes, waveformBytes, threeList, coreOf, legacyCoreOf}
 use Rattle.point_write.specs.Write.{twoList, joined, recordOf, onlyBytes}
-use Rattle.point_write.specs.Laws.{rest-is, extended-is, legacy-is, time-length, color-length, nir-length}
+use Rattle.point_write.specs.Laws.{only-length, no-stores, rest-is, extended-is, legacy-is, time-length, color-length, nir-length}
 use Rattle.point_write.specs.Theorems.{read-then-written}
 use Rattle.strict.specs.Upgrade.{upgradedFlags, upgradedOld, upgradedBy, upgradedOf}
 use Rattle.pairs.specs.declared.Plan.{Plan}
 use Rattle.pairs.specs.Paired.{Paired, Mates}
+use Rattle.pairs.specs.Sound.{not-up}
 use Rattle.convert.specs.Run.{turnedOf, imageOf}
 use Rattle.convert.specs.Asked.{Takes}
 
@@ -70,13 +71,20 @@ restAt a from b s =
 abbrev pub restFrom : Format → Format → List ℕ → List ℕ
 restFrom a b s = restAt a (placesOf a) b s
 
--- what it takes of the formats
+-- the formats have the same pieces, but for a near infrared, which comes beside a colour
 abbrev pub Alike : Format → Format → Type 0
-Alike a b = (b .«has_gps_time» ≡ a .«has_gps_time») × (b .«has_color» ≡ a .«has_color») × (b .«has_waveform» ≡ a .«has_waveform»)
+Alike a b =
+    (b .«has_gps_time» ≡ a .«has_gps_time») × (b .«has_color» ≡ a .«has_color») × (b .«has_waveform» ≡ a .«has_waveform»)
+    × (cond (b .«has_nir») 2 0 ≤ cond (a .«has_color») 6 0)
+
+beside : (nir color : Bool) → (nir && color) ≡ nir → cond nir 2 0 ≤ cond color 6 0
+beside true true e = omega arith
+beside true false e = not-up e
+beside false color e = omega arith
 
 pub alike : (up : Bool) (a b : Format) → Mates up a b → Alike a b
-alike true a b mates = (mates .time, mates .color, mates .waveform)
-alike false a b mates = (sym (mates .time), sym (mates .color), sym (mates .waveform))
+alike true a b mates = (mates .time, mates .color, mates .waveform, rw (← (mates .color)) (beside (b .«has_nir») (b .«has_color») (mates .nir-color)))
+alike false a b mates = (sym (mates .time), sym (mates .color), sym (mates .waveform), rw (mates .no-nir) (omega arith))
 
 -- the whole
 abbrev pub movedOf : Bool → Plan → List ℕ → List ℕ
@@ -99,10 +107,6 @@ two-taken s = rw (num-take 1 14 s 20 (omega arith), num-take 1 15 s 20 (omega ar
 -- a piece of n bytes at a place, and what stands after it
 piece : (s x y : List ℕ) (at n : ℕ) → drop at s ≡ x ++ y → length x ≡ n → (take n (drop at s) ≡ x) × (drop (at + n) s ≡ y)
 piece s x y at n e l = (ap (take n) e ∙ take-at x y n l, sym (drop-drop n at s) ∙ ap (drop n) e ∙ drop-at x y n l)
-
-only-length : (b : Bool) (bs : List ℕ) (n : ℕ) → length bs ≡ n → length (onlyBytes b bs) ≡ cond b n 0
-only-length true bs n h = h
-only-length false bs n h = refl
 
 -- the bytes before the flags, and those made anew
 abbrev front : Point → List ℕ
@@ -258,24 +262,43 @@ extended d laid more at to put after = rw (put, after) (sym (sets-append d laid 
 took : (s : List ℕ) (at n : ℕ) → at + n ≤ length s → length (take n (drop at s)) ≡ n
 took s at n h = length-take-le n (drop at s) (simp length-drop (omega arith))
 
+-- a source record from whose places the pieces go to those of the target
+pub record Moving (a b : Format) (from to : Places) (s : List ℕ) : Type 0 where
+  pub is-from : from ≡ placesOf a
+  pub is-to : to ≡ placesOf b
+  pub there : from .waveform ≤ length s
+  pub same : Alike a b
+
 -- the source id and the pieces after it, laid one after the other at their places in the target
-module _ (a b : Format) (from to : Places) (is-from : from ≡ placesOf a) (is-to : to ≡ placesOf b) (s d : List ℕ) (there : from .waveform ≤ length s) (same : Alike a b) where
+module _ {a b : Format} {from to : Places} {s : List ℕ} (m : Moving a b from to s) where
   pub last-room : (n : ℕ) → placeOf b Waveform + length (drop (placeOf a Waveform) s) ≤ n → to .waveform + length (take (length s - from .waveform) (drop (from .waveform) s)) ≤ n
   unfolding placesOf
-  last-room n h = rw (is-from, is-to, take-all (length s - placeOf a Waveform) (drop (placeOf a Waveform) s) (simp length-drop (omega arith))) h
+  last-room n h = rw (m .is-from, m .is-to, take-all (length s - placeOf a Waveform) (drop (placeOf a Waveform) s) (simp length-drop (omega arith))) h
 
-  pub rest-laid : {e1 e2 e3 e4 e5 : List ℕ} → e1 ≡ sets d (to .«point_source_id») (take 2 (drop (from .«point_source_id») s)) → e2 ≡ sets e1 (to .«gps_time») (take (cond (a .«has_gps_time») 8 0) (drop (from .«gps_time») s)) → e3 ≡ sets e2 (to .color) (take (cond (a .«has_color») 6 0) (drop (from .color) s)) → e4 ≡ sets e3 (to .nir) (onlyBytes (b .«has_nir») (bytes 2 0)) → e5 ≡ sets e4 (to .waveform) (take (length s - from .waveform) (drop (from .waveform) s)) → e5 ≡ sets d (placeOf b PointSourceId) (restFrom a b s)
+  -- up to the time, with the others still to come
+  pub time-laid : (d : List ℕ) {e1 e2 : List ℕ} → e1 ≡ sets d (to .«point_source_id») (take 2 (drop (from .«point_source_id») s)) → e2 ≡ sets e1 (to .«gps_time») (take (cond (a .«has_gps_time») 8 0) (drop (from .«gps_time») s)) → sets e2 (to .color) (lastAt a from b s) ≡ sets d (placeOf b PointSourceId) (restFrom a b s)
   unfolding placesOf
-  rest-laid {e1} {e2} {e3} {e4} {e5} h1 h2 h3 h4 h5 =
-      let f = places-follow a from is-from in
-      let g = places-follow b to is-to in
+  time-laid d {e1} {e2} h1 h2 =
+      let f = places-follow a from (m .is-from) in
+      let g = places-follow b to (m .is-to) in
       let t : List ℕ = take (cond (a .«has_gps_time») 8 0) (drop (from .«gps_time») s) in
-      let c : List ℕ = take (cond (a .«has_color») 6 0) (drop (from .color) s) in
+      extended e1 t (lastAt a from b s) (to .«gps_time») (to .color) h2 (rw (took s (from .«gps_time») (cond (a .«has_gps_time») 8 0) (omega (arith, f .1, f .2, f .3, m .there)), ← (m .same .0)) (g .1))
+      ∙ extended d (take 2 (drop (from .«point_source_id») s)) (t ++ lastAt a from b s) (to .«point_source_id») (to .«gps_time») h1 (rw (took s (from .«point_source_id») 2 (omega (arith, f .0, f .1, f .2, f .3, m .there))) (g .0))
+      ∙ (λ i. sets d (m .is-to i .«point_source_id») (restAt a (m .is-from i) b s))
+
+  -- the others
+  pub last-laid : (e2 : List ℕ) {e3 e4 e5 : List ℕ} → e3 ≡ sets e2 (to .color) (take (cond (a .«has_color») 6 0) (drop (from .color) s)) → e4 ≡ sets e3 (to .nir) (onlyBytes (b .«has_nir») (bytes 2 0)) → e5 ≡ sets e4 (to .waveform) (take (length s - from .waveform) (drop (from .waveform) s)) → e5 ≡ sets e2 (to .color) (lastAt a from b s)
+  last-laid e2 {e3} {e4} {e5} h3 h4 h5 =
+      let f = places-follow a from (m .is-from) in
+      let g = places-follow b to (m .is-to) in
       let n : List ℕ = onlyBytes (b .«has_nir») (bytes 2 0) in
       let w : List ℕ = drop (from .waveform) s in
-      h5 ∙ ap (sets e4 (to .waveform)) (take-all (length s - from .waveform) w (simp length-drop (omega arith)))
+      h5 ∙ ap (sets e4 (to .waveform)) (take-all (length s - from .waveform) w (simp length-drop (omega (arith, m .there))))
       ∙ extended e3 n w (to .nir) (to .waveform) h4 (rw (only-length (b .«has_nir») (bytes 2 0) 2 refl) (g .3))
-      ∙ extended e2 c (n ++ w) (to .color) (to .nir) h3 (rw (took s (from .color) (cond (a .«has_color») 6 0) (omega (arith, f .2, f .3)), ← (same .1)) (g .2))
-      ∙ extended e1 t (lastAt a from b s) (to .«gps_time») (to .color) h2 (rw (took s (from .«gps_time») (cond (a .«has_gps_time») 8 0) (omega (arith, f .1, f .2, f .3)), ← (same .0)) (g .1))
-      ∙ extended d (take 2 (drop (from .«point_source_id») s)) (t ++ lastAt a from b s) (to .«point_source_id») (to .«gps_time») h1 (rw (took s (from .«point_source_id») 2 (omega (arith, f .0, f .1, f .2, f .3))) (g .0))
-      ∙ (λ i. sets d (is-to i .«point_source_id») (restAt a (is-from i) b s))
+      ∙ extended e2 (take (cond (a .«has_color») 6 0) (drop (from .color) s)) (n ++ w) (to .color) (to .nir) h3 (rw (took s (from .color) (cond (a .«has_color») 6 0) (omega (arith, f .2, f .3, m .there)), ← (m .same .1)) (g .2))
+
+  -- there are none in a record that ends after the time
+  pub last-none : (e2 : List ℕ) → length s ≡ from .color → e2 ≡ sets e2 (to .color) (lastAt a from b s)
+  last-none e2 ends =
+      let f = places-follow a from (m .is-from) in
+      no-stores e2 (to .color) (lastAt a from b s) (simp (length-append, length-take, length-drop) (omega (arith, f .2, f .3, m .there, m .same .3, only-length (b .«has_nir») (bytes 2 0) 2 refl)))

@@ -182,6 +182,10 @@ fn move_rest(src: &[u8], source: Format, dst: &mut [u8], target: Format)
     let to = layout::places_for(target);
     move_two(src, from.point_source_id, dst, to.point_source_id);
     move_time(src, from.gps_time, source.has_gps_time, dst, to.gps_time);
+    // Most records end here, and then the target has no near infrared either: it stands beside a colour.
+    if src.len() == from.color {
+        return;
+    }
     move_color(src, from.color, source.has_color, dst, to.color);
     put_no_nir(dst, to.nir, target.has_nir);
     let others = from.waveform;

@@ -6,6 +6,7 @@ use mathlib.Core.List.{List, [], _∷_, _++_, append-nil}
 use native.Mathlib.Omega.{arith}
 use borrow.Author.Tests.{eq-eqb, le-ltb}
 use lib.ListN.{length, drop, length-append}
+use lib.Seq.{sets}
 use Rattle.lent.specs.declared.Wrote.the-variants as Wrote
 use Rattle.format.specs.declared.Format.{Format}
 use Rattle.format.specs.declared.Field.{Field}
@@ -25,6 +26,16 @@ use Rattle.point.specs.declared.MaybeNir.the-variants as some-nir
 use Rattle.point.specs.declared.Point.{Point}
 use Rattle.point_bytes.specs.Bytes.{coreOf, legacyCoreOf, timeBytes, colorBytes, nirBytes, waveformBytes}
 use Rattle.point_write.specs.Write.{fieldBytes, joined, recordOf, onlyBytes, flaggedOf, sizedOf}
+
+-- a piece that may be missing
+pub only-length : (b : Bool) (bs : List ℕ) (n : ℕ) → length bs ≡ n → length (onlyBytes b bs) ≡ cond b n 0
+only-length true bs n h = h
+only-length false bs n h = refl
+
+-- no bytes are no stores
+pub no-stores : (d : List ℕ) (at : ℕ) (bs : List ℕ) → length bs ≡ 0 → d ≡ sets d at bs
+no-stores d at [] e = refl
+no-stores d at (b ∷ bs) e = absurd (omega arith)
 
 module _ (f : Format) (p : Point) (e : List ℕ) where
   -- a field that may be missing
@@ -77,10 +88,6 @@ module _ (f : Format) (p : Point) (e : List ℕ) where
   pub waveform-length : (w : MaybeWaveform) → length (waveformBytes w) ≡ 29
   waveform-length (some-waveform.Some w) = refl
   waveform-length some-waveform.None = refl
-
-  only-length : (b : Bool) (bs : List ℕ) (n : ℕ) → length bs ≡ n → length (onlyBytes b bs) ≡ cond b n 0
-  only-length true bs n h = h
-  only-length false bs n h = refl
 
   pub rest-length : length e ≡ f .«extra_bytes» → length (joined f p e (restOf f)) ≡ sizes f (restOf f)
   unfolding sizes

@@ -1,7 +1,7 @@
 -- Piece after piece: after each, what is still to come fits, and written from there it makes the whole.
 use Prim.Native.Nat.{ℕ, _+_, _≤_}
-use mathlib.Core.Path.{_≡_, refl, sym, ap, _∙_}
-use mathlib.Core.List.{List, [], _∷_, _++_}
+use mathlib.Core.Path.{_≡_, sym, ap, _∙_}
+use mathlib.Core.List.{List, _++_}
 use borrow.Author.Needs.{needs}
 use native.Mathlib.Omega.{arith}
 use lib.ListN.{length}
@@ -9,7 +9,7 @@ use lib.Seq.{sets}
 use Rattle.lent.specs.Laws.{room, next, tail}
 use Rattle.point_bytes.specs.Bytes.{timeBytes, colorBytes, nirBytes, waveformBytes}
 use Rattle.point_write.specs.Write.{onlyBytes}
-use Rattle.point_write.specs.Laws.{fromColor, fromNir, fromWaveform, rest-is}
+use Rattle.point_write.specs.Laws.{fromColor, fromNir, fromWaveform, rest-is, no-stores}
 use Rattle.point_write.proofs.write_rest.Statement.{statement}
 use Rattle.point_write.proofs.write_rest.Tie as tie
 
@@ -113,16 +113,11 @@ returns c =
     tail (g .put-waveform .last .0) (s .args .extra .now) (p .put .last .0) (g .put-waveform .result) (p .put .result) (w .0) (p .put .ensures)
     ∙ w .1 ∙ ap (sets (s .args .dst .now) (s .args .at)) (sym (rest-is (s .args .format) (s .args .point) (s .args .extra .now)))
 
--- no extra bytes are no stores
-none : (d : List ℕ) (at : ℕ) (extra : List ℕ) → length extra ≡ 0 → d ≡ sets d at extra
-none d at [] e = refl
-none d at (x ∷ xs) e = absurd (omega arith)
-
 returns-2 : tie.Need-returns-2
 returns-2 c =
     let g = c .before .before .before in
     let s = g .before .before .before .before .before .before .before .before .before .before .before .before .before .before .before .before in
-    none (g .put-waveform .last .0) (g .put-waveform .result) (s .args .extra .now) (c .if1 .left)
+    no-stores (g .put-waveform .last .0) (g .put-waveform .result) (s .args .extra .now) (c .if1 .left)
     ∙ past-waveform g .1 ∙ ap (sets (s .args .dst .now) (s .args .at)) (sym (rest-is (s .args .format) (s .args .point) (s .args .extra .now)))
 
 pub write-rest-spec : {M : Type 1} → statement M
