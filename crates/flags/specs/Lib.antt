@@ -1,3 +1,4 @@
 pub mod Readings
 pub mod Bytes
+pub mod Fitted
 pub mod Theorems

@@ -3,7 +3,7 @@
 ghost use mathlib.Core.Path.{_≡_};
 ghost use mathlib.Core.Bool.{cond};
 ghost use Rattle.flags.specs.Readings.{bit, returnNumberOf, numberOfReturnsOf, directionOf, syntheticOf, keyPointOf, withheldOf, overlapOf, channelOf, edgeOf, classOf};
-ghost use Rattle.flags.specs.Bytes.{twoBytesOf, threeBytesOf, clearedOf, sameOf};
+ghost use Rattle.flags.specs.Bytes.{twoBytesOf, fittedOf, threeBytesOf, clearedOf, sameOf};
 use refusal::Refusal;
 
 // The class that stands for overlap in two-byte flags, and the one that takes its place where it is cleared.
@@ -33,6 +33,12 @@ pub struct ThreeBytes {
 pub enum TwoBytes {
     Bytes(u8, u8),
     Refused(Refusal),
+}
+
+// The bytes of two-byte flags, where it is known that there are some.
+pub struct FittedBytes {
+    pub a: u8,
+    pub b: u8,
 }
 
 impl Flags {
@@ -207,8 +213,7 @@ fn direction(n: u8) -> ScanDirection
     }
 }
 
-// The two bytes of three-byte flags, or the first refusal. Direction and edge keep their places, bits 6 and 7; synthetic,
-// key point and withheld move from bits 0 to 2 up to bits 5 to 7.
+// The two bytes of three-byte flags, or the first refusal.
 fn two_bytes(a: u8, b: u8, c: u8) -> TwoBytes
     ensures { λ r. ⌜ r ≡ twoBytesOf (Flags.ThreeByte a b c) ⌝ }
 {
@@ -227,11 +232,27 @@ fn two_bytes(a: u8, b: u8, c: u8) -> TwoBytes
     if scanner_channel > 0 {
         return TwoBytes::Refused(Refusal::Channel(scanner_channel));
     }
-    let first = b / 64 * 64 + number_of_returns * 8 + return_number;
+    let fitted = fitted_bytes(a, b, c);
+    TwoBytes::Bytes(fitted.a, fitted.b)
+}
+
+// The two bytes of three-byte flags that are known to fit, with no test: of return number, number of returns and class the low bits
+// are taken, and the channel is left out. Direction and edge keep their places, bits 6 and 7; synthetic, key point and withheld
+// move from bits 0 to 2 up to bits 5 to 7.
+pub fn fitted_bytes(a: u8, b: u8, c: u8) -> FittedBytes
+    ensures { λ r. ⌜ r ≡ fittedOf a b c ⌝ }
+{
+    let first = b / 64 * 64 + a / 16 % 8 * 8 + a % 8;
     if b / 8 % 2 == 1 {
-        return TwoBytes::Bytes(first, b % 8 * 32 + OVERLAP_CLASSIFICATION_CODE);
+        return FittedBytes {
+            a: first,
+            b: b % 8 * 32 + OVERLAP_CLASSIFICATION_CODE,
+        };
     }
-    TwoBytes::Bytes(first, b % 8 * 32 + c)
+    FittedBytes {
+        a: first,
+        b: b % 8 * 32 + c % 32,
+    }
 }
 
 // Class 12 becomes 1, and the three flags above it stay.
