@@ -15,10 +15,9 @@ ghost use Rattle.pairs.specs.Sound.{Sound};
 ghost use Rattle.judge.specs.Laws.{Ready};
 ghost use Rattle.convert.specs.Run.{turnedOf, imageOf, imagesOf, doneOf, toOldOf, toNewOf};
 ghost use Rattle.convert.specs.Asked.{Takes, TakesRun};
-ghost use Rattle.convert.specs.Moved.{twoOf, newMiddle, oldMiddle, middleOf, FlagsFit, Alike, restFrom};
+ghost use Rattle.convert.specs.Moved.{newMiddle, oldMiddle, middleOf, FlagsFit, Alike, restFrom};
 use angle::ScanAngle;
 use flags::Flags;
-use flags::TwoBytes;
 use format::Format;
 use judge::Verdict;
 use le::signed;
@@ -202,7 +201,8 @@ fn write_middle(src: &[u8], up: bool, dst: &mut [u8])
         put_at(dst, 14, &bytes);
         return;
     }
-    write_old_middle(&src[..20], dst);
+    let bytes = old_middle(&src[..20]);
+    put_at(dst, 14, &bytes);
 }
 
 // Those of an old record made new.
@@ -223,29 +223,17 @@ fn new_middle(core: &[u8]) -> [u8; 6]
     ]
 }
 
-// Those of a new record made old. Its flags have two bytes, since the run was judged, so the else is not reached.
-fn write_old_middle(core: &[u8], dst: &mut [u8])
-    requires { ⌜ (18 ≤ length (now dst)) × FlagsFit false (now core) ⌝ }
-    ensures { λ _. ⌜ now (dst .exit) ≡ sets (now (dst .entry)) 14 (oldMiddle (now (core .entry))) ⌝ }
+// Those of a new record made old. Its flags have two bytes, since the run was judged.
+fn old_middle(core: &[u8]) -> [u8; 4]
+    requires { ⌜ FlagsFit false (now core) ⌝ }
+    ensures { λ r. ⌜ r ≡ oldMiddle (now (core .entry)) ⌝ }
 {
-    let flags = Flags::ThreeByte(
+    let flags = flags::fitted_bytes(
         le::u8_at(core, 14),
         le::u8_at(core, 15),
         le::u8_at(core, 16),
     );
-    let TwoBytes::Bytes(a, b) = flags.to_two_bytes() else {
-        return;
-    };
-    let bytes = old_middle(core, a, b);
-    put_at(dst, 14, &bytes);
-}
-
-// The same, with the two bytes of flags.
-fn old_middle(core: &[u8], a: u8, b: u8) -> [u8; 4]
-    requires { ⌜ twoOf (now core) ≡ TwoBytes.Bytes a b ⌝ }
-    ensures { λ r. ⌜ r ≡ oldMiddle (now (core .entry)) ⌝ }
-{
     let scan_angle = ScanAngle::Scaled(le::i16_at(core, 18));
     let rank = signed::bits8(scan_angle.to_rank());
-    [a, b, rank, le::u8_at(core, 17)]
+    [flags.a, flags.b, rank, le::u8_at(core, 17)]
 }

@@ -1,11 +1,11 @@
 use Prim.Native.Nat.{_≤_}
-use mathlib.Core.Path.{ap, sym, _∙_}
+use mathlib.Core.Path.{sym, _∙_}
 use mathlib.Core.Bool.{false}
 use native.Mathlib.Omega.{arith}
 use borrow.Author.Needs.{needs}
 use lib.ListN.{length}
 use lib.Seq.{length-take-le}
-use Rattle.convert.specs.Moved.{FlagsFit, two-taken, old-taken, new-taken, new-length}
+use Rattle.convert.specs.Moved.{FlagsFit, two-taken, old-taken, new-taken}
 use Rattle.convert.proofs.write_middle.Statement.{statement}
 use Rattle.convert.proofs.write_middle.Tie as tie
 
@@ -24,11 +24,6 @@ module _ (c : tie.Else1) where
   old-room : 18 ≤ length (c .before .before .before .args .dst .now)
   old-room = rw (c .if1 .left) at (c .before .before .before .pre .1)
 
-put-at-requires : tie.Need-put-at-requires
-put-at-requires c κs =
-    let new = c .before .before in
-    omega (arith, ap length (new .new-middle .ensures) ∙ new-length _, new-room (new .before .before))
-
 returns : tie.Need-returns
 returns c =
     let put = c .before .before in
@@ -36,22 +31,25 @@ returns c =
     let x = new .before .before in
     rw (x .if1 .taken) (rw (new .new-middle .ensures, new-taken (x .before .before .before .args .src .now)) at (put .put-at .ensures))
 
-write-old-middle-requires : tie.Need-write-old-middle-requires
-write-old-middle-requires c κs =
-    let x = c .before .before in
+old-middle-requires : tie.Need-old-middle-requires
+old-middle-requires c κs =
+    let x = c .before in
     let s = x .before .before .before in
     let m : FlagsFit false (s .args .src .now) = rw (x .if1 .left) at (s .pre .2) in
-    (old-room x, (m .0, m .1, two-taken (s .args .src .now) ∙ m .2))
+    (m .0, m .1, two-taken (s .args .src .now) ∙ m .2)
 
 returns-2 : tie.Need-returns-2
 returns-2 c =
-    let w = c .before .before in
-    let x = w .before .before .before in
-    rw (x .if1 .left) (rw (old-taken (x .before .before .before .args .src .now)) at (w .write-old-middle .ensures))
+    let put = c .before .before in
+    let old = put .before .before .before in
+    let x = old .before .before in
+    rw (x .if1 .left) (rw (old .old-middle .ensures, old-taken (x .before .before .before .args .src .now)) at (put .put-at2 .ensures))
 
 pub write-middle-spec : {M : Type 1} → statement M
 write-middle-spec =
     tie.close
     (tie.spec
-    (λ c. sym (length-take-le 18 (c .before .before .before .before .args .src .now) (new-there (c .before)))) (λ c κs. search needs) (λ c. search needs) put-at-requires (λ c. search needs) returns
-    (λ c. sym (length-take-le 20 (c .before .before .before .before .args .src .now) (old-there (c .before)))) write-old-middle-requires (λ c. search needs) returns-2)
+    (λ c. sym (length-take-le 18 (c .before .before .before .before .args .src .now) (new-there (c .before)))) (λ c κs. search needs) (λ c. search needs)
+    (λ c κs. omega (arith, new-room (c .before .before .before .before))) (λ c. search needs) returns
+    (λ c. sym (length-take-le 20 (c .before .before .before .before .args .src .now) (old-there (c .before)))) old-middle-requires (λ c. search needs)
+    (λ c κs. omega (arith, old-room (c .before .before .before .before))) (λ c. search needs) returns-2)
