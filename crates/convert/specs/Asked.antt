@@ -5,16 +5,16 @@ use mathlib.Core.Bool.{Bool, false}
 use mathlib.Core.List.{List}
 use lib.ListN.{take, drop}
 use Rattle.format.specs.declared.Format.{Format}
-use Rattle.flags.specs.declared.TwoBytes.the-variants.{Bytes}
-use Rattle.flags.specs.Bytes.{twoBytesOf}
 use Rattle.point.specs.declared.Point.{Point}
 use Rattle.point.specs.Read.{pointOf}
+use Rattle.strict.specs.declared.Fit.the-variants.{Fits}
+use Rattle.strict.specs.Fit.{fitOf}
 use Rattle.pairs.specs.declared.Plan.{Plan}
 use Rattle.convert.specs.Run.{turnedOf}
 
--- the writer takes a point: in an old format its flags have two bytes
+-- the writer takes a point: it fits an old format
 abbrev pub Takes : Format → Point → Type 0
-Takes f p = f .«is_extended» ≡ false → (a : ℕ) × (b : ℕ) × (twoBytesOf (p .flags) ≡ Bytes a b)
+Takes f p = f .«is_extended» ≡ false → fitOf p ≡ Fits
 
 -- the writer takes each of `count` records
 unfoldable pub TakesRun : Bool → Plan → ℕ → List ℕ → Type 0

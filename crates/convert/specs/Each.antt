@@ -19,7 +19,6 @@ use Rattle.strict.specs.declared.Fit.the-variants as fit
 use Rattle.strict.specs.Fit.{fitOf}
 use Rattle.strict.specs.Shown.{Same, downImage}
 use Rattle.pairs.specs.Paired.{Paired}
-use Rattle.strict.specs.Whole.{fits-two}
 use Rattle.strict.specs.Theorems.{shown-the-same}
 use Rattle.pairs.specs.declared.Plan.{Plan}
 use Rattle.judge.specs.declared.Judged.{Judged}
@@ -180,7 +179,7 @@ module _ (p : Plan) (sound : Sound false p) (pair : Paired (p .source) (p .targe
       let ends : suc k * m ≤ count * m = mul-le-mul-right m (omega arith) in
       let long : length r ≡ m = length-take-le m (drop (k * m) s) (simp length-drop (omega (arith, suc-mul k m, g .there))) in
       let own = fits-each (p .source) m 1 count s (g .records) k l in
-      let size : length (imageOf false p r) ≡ n = image-length false p sound r long (λ _. fits-two (pointOf (p .source) r) own) in
+      let size : length (imageOf false p r) ≡ n = image-length false p sound r long (λ _. own) in
       let stands : nth n k e ≡ downImage (p .source) (p .target) r ++ [] = ap (nth n k) is ∙ ap (take n) (image .1) ∙ take-at (imageOf false p r) (image .0) n size ∙ sym (append-nil (imageOf false p r)) in
       let same = shown-the-same (p .source) (p .target) pair r (bytes-take m (drop (k * m) s) (bytes-drop (k * m) s bytes)) [] (omega (arith, len-is (p .source) m (sound .from))) own in
       subst (λ (t : List ℕ). Same (pointOf (p .source) r) (pointOf (p .target) t) × (fieldOf (p .target) ExtraBytes t ≡ fieldOf (p .source) ExtraBytes r)) (sym stands) same

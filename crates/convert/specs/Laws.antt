@@ -34,7 +34,7 @@ use Rattle.judge.specs.declared.Judged.the-variants as judged
 use Rattle.judge.specs.Judge.{judgedBy, judgeRun, recordsOf, judgedOf, verdictOn, verdictBy}
 use Rattle.convert.specs.Run.{turnedOf, imageOf, imagesOf, ran, convertedOf, convertedBy, doneOf}
 use Rattle.convert.specs.Asked.{Takes, TakesRun}
-use Rattle.convert.specs.Moved.{middleOf, restFrom, image-moved, flags-fit, middle-end}
+use Rattle.convert.specs.Moved.{middleOf, restFrom, image-moved, middle-fits, middle-end}
 
 -- a store leaves those past it as they come
 set-before : (d y : List ℕ) (i j b : ℕ) → i < j → set (sets d j y) i b ≡ sets (set d i b) j y
@@ -72,7 +72,7 @@ module _ (f : Format) (p : Point) (e : List ℕ) (n : ℕ) (long : lenOf f ≡ l
       go : (c : Bool) → f .«is_extended» ≡ c → length (recordOf f p e) ≡ n
       go true t = rw (extended-is f p e t) (length-append (coreOf p) _ ∙ omega (arith, core-length f p e, sum true t))
       go false t =
-          let w = takes t in
+          let w = fits-two p (takes t) in
           rw (legacy-is f p e (w .0) (w .1) t (w .2)) (length-append (legacyCoreOf p (w .0) (w .1)) _ ∙ omega (arith, legacy-core-length f p e (w .0) (w .1), sum false t))
 
 -- a whole record of the source that the writer takes: its image has the target's length
@@ -89,7 +89,7 @@ module _ (up : Bool) (p : Plan) (sound : Sound up p) (s : List ℕ) (whole : len
   image-laid all d room =
       let size : recordBytes (p .source) ≡ length s = sym (len-is (p .source) (p .«source_length») (sound .from)) ∙ sym whole in
       let long : 20 ≤ length s = omega (arith, record-sum (p .source)) in
-      let fit = flags-fit up p (sound .mates) s all size takes in
+      let fit = middle-fits up p (sound .mates) s all size takes in
       let end = middle-end up (p .source) (p .target) (sound .mates) s fit in
       let rest = restFrom (p .source) (p .target) s in
       let after : 2 ≤ length (middleOf up s) = omega (arith, end, further 18 (p .target .«is_extended»)) in
@@ -112,7 +112,7 @@ takes-old p number (suc k) s e = go (fitOf (pointOf (p .source) (take (p .«sour
     later = judgeRun (p .source) (p .«source_length») (number + 1) k (drop (p .«source_length») s)
 
     go : (x : Fit) → fitOf point ≡ x → judgedBy x number later ≡ judged.Fits → (later ≡ judged.Fits → TakesRun false p k (drop (p .«source_length») s)) → Takes (p .target) point × TakesRun false p k (drop (p .«source_length») s)
-    go fit.Fits f l rest = (λ _. fits-two point f, rest l)
+    go fit.Fits f l rest = (λ _. f, rest l)
     go (fit.Refused r) f l rest = let z : _≡_ {A = ℕ} 0 1 = cc in absurd (omega arith)
 
 -- an extended format takes every point

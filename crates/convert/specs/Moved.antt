@@ -23,13 +23,16 @@ use Rattle.flags.specs.declared.TwoBytes.{TwoBytes}
 use Rattle.flags.specs.declared.TwoBytes.the-variants as two
 use Rattle.flags.specs.Bytes.{twoBytesOf, threeBytesOf}
 use Rattle.angle.specs.declared.ScanAngle.the-variants.{Rank, Scaled}
-use Rattle.angle.specs.Angle.{toRank, toScaled}
+use Rattle.angle.specs.Angle.{nearestRank, toRank, toScaled}
 use Rattle.point.specs.declared.Point.{Point}
 use Rattle.point.specs.Read.{flagsAt, angleAt, fieldOf, pointOf}
 use Rattle.point_bytes.specs.Bytes.{timeBytes, colorBytes, nirBytes, waveformBytes, threeList, coreOf, legacyCoreOf}
 use Rattle.point_write.specs.Write.{twoList, joined, recordOf, onlyBytes}
 use Rattle.point_write.specs.Laws.{only-length, no-stores, rest-is, extended-is, legacy-is, time-length, color-length, nir-length}
 use Rattle.point_write.specs.Theorems.{read-then-written}
+use Rattle.strict.specs.declared.Fit.the-variants.{Fits}
+use Rattle.strict.specs.Fit.{angleFitOf}
+use Rattle.strict.specs.Whole.{angle-exact, fit-parts, fits-two}
 use Rattle.strict.specs.Upgrade.{upgradedFlags, upgradedOld, upgradedBy, upgradedOf}
 use Rattle.pairs.specs.declared.Plan.{Plan}
 use Rattle.pairs.specs.Paired.{Paired, Mates}
@@ -53,10 +56,11 @@ abbrev pub middleOf : Bool → List ℕ → List ℕ
 middleOf true s = newMiddle s
 middleOf false s = oldMiddle s
 
--- on the way down the flags have two bytes
-abbrev pub FlagsFit : Bool → List ℕ → Type 0
-FlagsFit true s = Unit
-FlagsFit false s = (x : ℕ) × (y : ℕ) × (twoOf s ≡ two.Bytes x y)
+-- on the way down the flags have two bytes, and the nearest rank need not be held
+abbrev pub MiddleFits : Bool → List ℕ → Type 0
+MiddleFits true s = Unit
+MiddleFits false s =
+    (x : ℕ) × (y : ℕ) × (twoOf s ≡ two.Bytes x y) × (toRank (Scaled (toZ w16 (num 2 18 s))) ≡ nearestRank (toZ w16 (num 2 18 s)))
 
 -- the source id and what stands after it, from the places of the source
 abbrev pub lastAt : Format → Places → Format → List ℕ → List ℕ
@@ -101,8 +105,9 @@ unfolding newMiddle
 new-taken s =
     rw (num-take 1 14 s 18 (omega arith), num-take 1 15 s 18 (omega arith), num-take 1 16 s 18 (omega arith), num-take 1 17 s 18 (omega arith))
 
-pub two-taken : (s : List ℕ) → twoOf (take 20 s) ≡ twoOf s
-two-taken s = rw (num-take 1 14 s 20 (omega arith), num-take 1 15 s 20 (omega arith), num-take 1 16 s 20 (omega arith))
+pub fits-taken : (s : List ℕ) → MiddleFits false s → MiddleFits false (take 20 s)
+fits-taken s m =
+    rw (num-take 1 14 s 20 (omega arith), num-take 1 15 s 20 (omega arith), num-take 1 16 s 20 (omega arith), num-take 2 18 s 20 (omega arith)) m
 
 -- a piece of n bytes at a place, and what stands after it
 piece : (s x y : List ℕ) (at n : ℕ) → drop at s ≡ x ++ y → length x ≡ n → (take n (drop at s) ≡ x) × (drop (at + n) s ≡ y)
@@ -168,6 +173,10 @@ module _ (a : Format) (s : List ℕ) (all : Bytes s) (whole : recordBytes a ≡ 
     pub goes : twoOf s ≡ two.Bytes x y
     goes = ap twoBytesOf (sym new-flags) ∙ is-two
 
+    pub rank-exact : angleFitOf (point .«scan_angle») ≡ Fits → toRank (Scaled (toZ w16 (num 2 18 s))) ≡ nearestRank (toZ w16 (num 2 18 s))
+    unfolding pointOf angleAt
+    rank-exact fits = angle-exact (Scaled (toZ w16 (num 2 18 s))) (rw (pair .is-new) at fits)
+
     old-made : oldMade point x y ≡ oldMiddle s
     unfolding oldMiddle pointOf angleAt
     old-made = rw (goes, pair .is-new)
@@ -215,27 +224,29 @@ pub image-moved : (up : Bool) (p : Plan) → Mates up (p .source) (p .target) �
 unfolding imageOf
 image-moved true p mates s all whole takes = new-moved (p .source) s all whole (p .target) mates
 image-moved false p mates s all whole takes =
-    let w = takes (mates .is-old) in
+    let w = fits-two (pointOf (p .source) s) (takes (mates .is-old)) in
     old-moved (p .source) s all whole (p .target) mates (w .0) (w .1) (w .2)
 
--- whose flags have two bytes on the way down
-pub flags-fit : (up : Bool) (p : Plan) → Mates up (p .source) (p .target) → (s : List ℕ) → Bytes s → recordBytes (p .source) ≡ length s → Takes (p .target) (turnedOf up (pointOf (p .source) s)) → FlagsFit up s
-flags-fit true p mates s all whole takes = tt
-flags-fit false p mates s all whole takes =
-    let w = takes (mates .is-old) in
-    (w .0, w .1, goes (p .source) s all whole (p .target) mates (w .0) (w .1) (w .2))
+-- whose flags and angle fit on the way down
+pub middle-fits : (up : Bool) (p : Plan) → Mates up (p .source) (p .target) → (s : List ℕ) → Bytes s → recordBytes (p .source) ≡ length s → Takes (p .target) (turnedOf up (pointOf (p .source) s)) → MiddleFits up s
+middle-fits true p mates s all whole takes = tt
+middle-fits false p mates s all whole takes =
+    let point = pointOf (p .source) s in
+    let fits = takes (mates .is-old) in
+    let w = fits-two point fits in
+    (w .0, w .1, goes (p .source) s all whole (p .target) mates (w .0) (w .1) (w .2), rank-exact (p .source) s all whole (p .target) mates (w .0) (w .1) (w .2) (fit-parts point fits .2))
 
 -- the bytes of the middle
 pub new-length : (s : List ℕ) → length (newMiddle s) ≡ 6
 unfolding newMiddle
 new-length s = refl
 
-pub old-length : (s : List ℕ) → FlagsFit false s → length (oldMiddle s) ≡ 4
+pub old-length : (s : List ℕ) → MiddleFits false s → length (oldMiddle s) ≡ 4
 unfolding oldMiddle
 old-length s m = rw (m .2)
 
 -- the rest stands after it
-pub middle-end : (up : Bool) (a b : Format) → Mates up a b → (s : List ℕ) → FlagsFit up s → 14 + length (middleOf up s) ≡ placeOf b PointSourceId
+pub middle-end : (up : Bool) (a b : Format) → Mates up a b → (s : List ℕ) → MiddleFits up s → 14 + length (middleOf up s) ≡ placeOf b PointSourceId
 middle-end true a b mates s m = ap (λ (n : ℕ). 14 + n) (new-length s) ∙ sym (ap (λ (c : Bool). cond c 20 18) (mates .is-new))
 middle-end false a b mates s m = ap (λ (n : ℕ). 14 + n) (old-length s m) ∙ sym (ap (λ (c : Bool). cond c 20 18) (mates .is-old))
 

@@ -15,7 +15,7 @@ ghost use Rattle.pairs.specs.Sound.{Sound};
 ghost use Rattle.judge.specs.Laws.{Ready};
 ghost use Rattle.convert.specs.Run.{turnedOf, imageOf, imagesOf, doneOf, toOldOf, toNewOf};
 ghost use Rattle.convert.specs.Asked.{Takes, TakesRun};
-ghost use Rattle.convert.specs.Moved.{newMiddle, oldMiddle, middleOf, FlagsFit, Alike, restFrom};
+ghost use Rattle.convert.specs.Moved.{newMiddle, oldMiddle, middleOf, MiddleFits, Alike, restFrom};
 use angle::ScanAngle;
 use flags::Flags;
 use format::Format;
@@ -193,7 +193,7 @@ fn move_rest(src: &[u8], source: Format, dst: &mut [u8], target: Format)
 
 // The flags, the angle and the user data, which are made anew of what stands before the source id.
 fn write_middle(src: &[u8], up: bool, dst: &mut [u8])
-    requires { ⌜ (cond up 18 20 ≤ length (now src)) × (cond up 20 18 ≤ length (now dst)) × FlagsFit up (now src) ⌝ }
+    requires { ⌜ (cond up 18 20 ≤ length (now src)) × (cond up 20 18 ≤ length (now dst)) × MiddleFits up (now src) ⌝ }
     ensures { λ _. ⌜ now (dst .exit) ≡ sets (now (dst .entry)) 14 (middleOf up (now (src .entry))) ⌝ }
 {
     if up {
@@ -223,9 +223,9 @@ fn new_middle(core: &[u8]) -> [u8; 6]
     ]
 }
 
-// Those of a new record made old. Its flags have two bytes, since the run was judged.
+// Those of a new record made old. They fit, since the run was judged: nothing is tested, and the rank is not held.
 fn old_middle(core: &[u8]) -> [u8; 4]
-    requires { ⌜ FlagsFit false (now core) ⌝ }
+    requires { ⌜ MiddleFits false (now core) ⌝ }
     ensures { λ r. ⌜ r ≡ oldMiddle (now (core .entry)) ⌝ }
 {
     let flags = flags::fitted_bytes(
@@ -233,7 +233,6 @@ fn old_middle(core: &[u8]) -> [u8; 4]
         le::u8_at(core, 15),
         le::u8_at(core, 16),
     );
-    let scan_angle = ScanAngle::Scaled(le::i16_at(core, 18));
-    let rank = signed::bits8(scan_angle.to_rank());
-    [flags.a, flags.b, rank, le::u8_at(core, 17)]
+    let rank = angle::nearest_rank(le::i16_at(core, 18)) as i8;
+    [flags.a, flags.b, signed::bits8(rank), le::u8_at(core, 17)]
 }

@@ -85,7 +85,7 @@ module _ (old : Format) (p : Point) (e : List ℕ) (is-old : old .«is_extended�
       ∙ sym (legacy-is old (downOf p) e a b is-old same)
 
 -- a held number is a rank
-held-fits : (z : ℤ) → SFits w8 (held z)
+pub held-fits : (z : ℤ) → SFits w8 (held z)
 unfolding held
 held-fits z = go z (ltZ z (negsuc 127)) (ltZ (pos 127) z) refl refl
   where

@@ -1,37 +1,54 @@
-use mathlib.Core.Path.{ap, _∙_}
+-- The flags that were read have two bytes, and the nearest rank is the one that would be held.
+use mathlib.Core.Path.{_≡_, ap, sym, subst, _∙_}
 use mathlib.Core.List.{[], _∷_}
 use borrow.Author.Needs.{needs}
-use lib.IntN.{ℤ}
 use mir.Syntax.{w8, w16}
-use mir.Val.{ofZ}
+use mir.Val.{SFits, ofZ, toZ}
+use Rattle.le.specs.Le.{num}
 use Rattle.le.proofs.Twos.{kept}
 use Rattle.flags.specs.Bytes.{fittedOf}
 use Rattle.flags.specs.Fitted.{two-fitted}
-use Rattle.angle.specs.declared.ScanAngle.the-variants.{Scaled}
-use Rattle.angle.specs.Angle.{toRank}
+use Rattle.angle.specs.Angle.{nearestRank, rankOf}
+use Rattle.strict.specs.Record.{held-fits}
 use Rattle.convert.specs.Moved.{oldMiddle}
 use Rattle.convert.proofs.old_middle.Statement.{statement}
 use Rattle.convert.proofs.old_middle.Tie as tie
+
+module _ (x : tie.After-nearest-rank) where
+  abbrev angle : tie.After-i16-at
+  angle = x .before
+
+  abbrev begun : tie.Start
+  begun = angle .before .before .before .before .before .before
+
+  nearest : x .nearest-rank .result ≡ nearestRank (toZ w16 (num 2 18 (begun .args .core .now)))
+  nearest = x .nearest-rank .ensures ∙ ap nearestRank (kept w16 (angle .i16-at .result) (angle .i16-at .ok) ∙ angle .i16-at .ensures)
+
+  fits : SFits w8 (x .nearest-rank .result)
+  unfolding rankOf
+  fits = subst (SFits w8) (begun .pre .3 ∙ sym nearest) (held-fits (nearestRank (toZ w16 (num 2 18 (begun .args .core .now)))))
+
+cast-rank : tie.Need-cast-rank
+cast-rank c = rw (kept w16 (c .nearest-rank .result) (c .nearest-rank .ok)) (fits c)
 
 returns : tie.Need-returns
 unfolding oldMiddle
 returns c =
     let bits = c .before in
-    let rank = bits .before in
-    let angle = rank .before in
-    let fitted = angle .before in
+    let x = bits .before in
+    let fitted = x .before .before in
     let third = fitted .before in
     let second = third .before in
     let first = second .before in
-    let fit = first .before .before .pre in
+    let fit = begun x .pre in
     let flags = fitted .fitted-bytes .ensures ∙ (λ i. fittedOf (first .u8-at .ensures i) (second .u8-at2 .ensures i) (third .u8-at3 .ensures i)) in
-    let scaled = kept w16 (angle .i16-at .result) (angle .i16-at .ok) ∙ angle .i16-at .ensures in
-    let held = bits .bits8 .ensures ∙ ap (ofZ w8) (kept w8 (rank .to-rank .result) (rank .to-rank .ok) ∙ rank .to-rank .ensures ∙ ap (λ (k : ℤ). toRank (Scaled k)) scaled) in
-    rw (two-fitted _ _ _ (fit .0) (fit .1) (fit .2)) (λ i. flags i .a ∷ flags i .b ∷ held i ∷ c .u8-at4 .ensures i ∷ [])
+    let rank : bits .bits8 .result ≡ ofZ w8 (x .nearest-rank .result) = rw (kept w16 (x .nearest-rank .result) (x .nearest-rank .ok), kept w8 (x .nearest-rank .result) (fits x .sfits)) at (bits .bits8 .ensures) in
+    let ranked = rank ∙ ap (ofZ w8) (nearest x ∙ sym (fit .3)) in
+    rw (two-fitted _ _ _ (fit .0) (fit .1) (fit .2)) (λ i. flags i .a ∷ flags i .b ∷ ranked i ∷ c .u8-at4 .ensures i ∷ [])
 
 pub old-middle-spec : {M : Type 1} → statement M
 old-middle-spec =
     tie.close
     (tie.spec
-    (λ c κs. search needs) (λ c κs. search needs) (λ c κs. search needs) (λ c κs. search needs)
-    (λ c κs. search needs) (λ c κs. search needs) (λ c κs. search needs) (λ c κs. search needs) returns)
+    (λ c κs. search needs) (λ c κs. search needs) (λ c κs. search needs) (λ c κs. search needs) (λ c κs. search needs)
+    (λ c κs. search needs) cast-rank (λ c κs. search needs) (λ c κs. search needs) returns)

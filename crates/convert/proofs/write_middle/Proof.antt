@@ -1,11 +1,10 @@
 use Prim.Native.Nat.{_≤_}
-use mathlib.Core.Path.{sym, _∙_}
-use mathlib.Core.Bool.{false}
+use mathlib.Core.Path.{sym}
 use native.Mathlib.Omega.{arith}
 use borrow.Author.Needs.{needs}
 use lib.ListN.{length}
 use lib.Seq.{length-take-le}
-use Rattle.convert.specs.Moved.{FlagsFit, two-taken, old-taken, new-taken}
+use Rattle.convert.specs.Moved.{fits-taken, old-taken, new-taken}
 use Rattle.convert.proofs.write_middle.Statement.{statement}
 use Rattle.convert.proofs.write_middle.Tie as tie
 
@@ -35,8 +34,7 @@ old-middle-requires : tie.Need-old-middle-requires
 old-middle-requires c κs =
     let x = c .before in
     let s = x .before .before .before in
-    let m : FlagsFit false (s .args .src .now) = rw (x .if1 .left) at (s .pre .2) in
-    (m .0, m .1, two-taken (s .args .src .now) ∙ m .2)
+    fits-taken (s .args .src .now) (rw (x .if1 .left) at (s .pre .2))
 
 returns-2 : tie.Need-returns-2
 returns-2 c =

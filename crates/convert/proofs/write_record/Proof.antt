@@ -11,7 +11,7 @@ use Rattle.format.specs.Fields.{recordBytes}
 use Rattle.format.specs.Laws.{len-is, record-sum, record-end}
 use Rattle.pairs.specs.Paired.{Mates}
 use Rattle.pairs.specs.Sound.{same-extra}
-use Rattle.convert.specs.Moved.{alike, flags-fit}
+use Rattle.convert.specs.Moved.{alike, middle-fits}
 use Rattle.convert.specs.Laws.{image-laid}
 use Rattle.convert.proofs.write_record.Statement.{statement}
 use Rattle.convert.proofs.write_record.Tie as tie
@@ -62,7 +62,7 @@ write-middle-requires c κs =
     let s = begun x in
     let a = s .args in
     let core = core-there (a .up) (a .plan .source) (a .plan .target) (s .pre .0 .mates) (length (a .src .now)) (length (a .dst .now)) (size s) (room s) in
-    (core .0, omega (arith, x .move-eight .kept .1 .1 .0, second .move-eight2 .kept .1 .1 .0, core .1), flags-fit (a .up) (a .plan) (s .pre .0 .mates) (a .src .now) (is-bytes (known x)) (size s) (s .pre .3))
+    (core .0, omega (arith, x .move-eight .kept .1 .1 .0, second .move-eight2 .kept .1 .1 .0, core .1), middle-fits (a .up) (a .plan) (s .pre .0 .mates) (a .src .now) (is-bytes (known x)) (size s) (s .pre .3))
 
 move-rest-requires : tie.Need-move-rest-requires
 move-rest-requires c κs =
