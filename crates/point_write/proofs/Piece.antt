@@ -22,32 +22,26 @@ exact d bs ys at r h e =
     let y : ys ≡ bs ++ drop (length bs) (take (length bs) (drop at d)) = ap (λ (p : Wrote × List ℕ). p .1) (rw n at e ∙ front bs (take (length bs) (drop at d)) (omega (arith, part))) in
     rw (sets-eq bs d at h, n, y, drop-of-length-le (take (length bs) (drop at d)) none, append-nil, drop-drop, append-assoc)
 
--- the n bytes of s from a place on, where the format has them
-pub record Piece (has : Bool) (n : ℕ) (s : List ℕ) (at : ℕ) : Type 0 where
-  pub is : has ≡ true
-  pub within : at + cond has n 0 ≤ length s
+-- what a format has is there
+pub has-room : (has : Bool) → has ≡ true → (n at k : ℕ) → at + cond has n 0 ≤ k → at + n ≤ k
+has-room has is n at k h = omega (arith, ap {B = ℕ} (λ (b : Bool). cond b n 0) is)
 
-module _ {has : Bool} {n : ℕ} {s : List ℕ} {at : ℕ} (p : Piece has n s at) where
-  pub there : at + n ≤ length s
-  there = omega (arith, p .within, ap {B = ℕ} (λ (b : Bool). cond b n 0) (p .is))
-
+-- the n bytes of s from a place on
+module _ (n : ℕ) (s : List ℕ) (at : ℕ) where
   abbrev pub cut : List ℕ
   cut = take (at + n - at) (drop at s)
 
-  pub cut-is : cut ≡ take (cond has n 0) (drop at s)
-  cut-is = let e : at + n - at ≡ n = omega arith in rw (e, p .is)
-
-  pub cut-length : length cut ≡ n
-  cut-length =
+  pub cut-length : at + n ≤ length s → length cut ≡ n
+  cut-length there =
       let e : at + n - at ≡ n = omega arith in
       rw e (length-take-le n (drop at s) (simp length-drop (omega (arith, there))))
 
   pub cut-bytes : Bytes s → Bytes cut
   cut-bytes all = bytes-take (at + n - at) (drop at s) (bytes-drop at s all)
 
-  -- written as it was cut, it has room where the destination has the record's length, and is laid there
-  pub cut-fits : (d : List ℕ) {r : List ℕ} → length d ≡ length s → r ≡ cut → at + length r ≤ length d
-  cut-fits d same read = omega (arith, ap length read ∙ cut-length, there, same)
-
-  pub cut-laid : (d : List ℕ) (to : ℕ) {r e : List ℕ} → r ≡ cut → e ≡ sets d to r → e ≡ sets d to (take (cond has n 0) (drop at s))
-  cut-laid d to read put = put ∙ ap (sets d to) (read ∙ cut-is)
+  -- laid as it was cut, where the format has it
+  pub cut-laid : (has : Bool) → has ≡ true → (d : List ℕ) (to : ℕ) {r e : List ℕ} → r ≡ cut → e ≡ sets d to r → e ≡ sets d to (take (cond has n 0) (drop at s))
+  cut-laid has is d to read put =
+      let e : at + n - at ≡ n = omega arith in
+      let same : cut ≡ take (cond has n 0) (drop at s) = rw (e, is) in
+      put ∙ ap (sets d to) (read ∙ same)

@@ -1,9 +1,11 @@
-use mathlib.Core.Path.{_≡_, _∙_}
+use Prim.Native.Nat.{_+_, _≤_}
+use mathlib.Core.Path.{_≡_, ap, _∙_}
 use native.Mathlib.Omega.{arith}
 use borrow.Author.Needs.{needs}
+use lib.ListN.{length}
 use Rattle.point.specs.declared.MaybeColor.the-variants.{Some}
 use Rattle.point_bytes.specs.Bytes.{colorBytes}
-use Rattle.point_write.proofs.Piece.{Piece, there, cut, cut-length, cut-bytes, cut-fits, cut-laid}
+use Rattle.point_write.proofs.Piece.{has-room, cut, cut-length, cut-bytes, cut-laid}
 use Rattle.rewrite.proofs.Pieces.{color-again}
 use Rattle.rewrite.proofs.rewrite_color.Statement.{statement}
 use Rattle.rewrite.proofs.rewrite_color.Tie as tie
@@ -11,34 +13,34 @@ use Rattle.rewrite.proofs.rewrite_color.Tie as tie
 abbrev begun : tie.Then1 → tie.Start
 begun t = t .before .before .before
 
-piece : (t : tie.Then1) → Piece (begun t .args .has) 6 (begun t .args .src .now) (begun t .args .at)
-piece t = record { is = t .if1 .taken; within = begun t .pre .0 }
+there : (t : tie.Then1) → begun t .args .at + 6 ≤ length (begun t .args .src .now)
+there t = has-room (begun t .args .has) (t .if1 .taken) 6 (begun t .args .at) (length (begun t .args .src .now)) (begun t .pre .0)
 
 abbrev asked : tie.After-color-bytes → tie.Then1
 asked x = x .before .before .before .before .before
 
 -- what is written is what was read
-again : (x : tie.After-color-bytes) → x .color-bytes .result ≡ cut (piece (asked x))
+again : (x : tie.After-color-bytes) → x .color-bytes .result ≡ cut 6 (begun (asked x) .args .src .now) (begun (asked x) .args .at)
 again x =
-    let p = piece (asked x) in
+    let a = begun (asked x) .args in
     x .color-bytes .ensures ∙ (λ i. colorBytes (Some (record { red = x .before .before .before .u16-at .ensures i; green = x .before .before .u16-at2 .ensures i; blue = x .before .u16-at3 .ensures i })))
-    ∙ color-again (cut p) (cut-bytes p (λ k. omega (arith, asked x .before .before .shared-slice-known .given k))) (cut-length p)
+    ∙ color-again (cut 6 (a .src .now) (a .at)) (cut-bytes 6 (a .src .now) (a .at) (λ k. omega (arith, asked x .before .before .shared-slice-known .given k))) (cut-length 6 (a .src .now) (a .at) (there (asked x)))
 
 put-at-requires : tie.Need-put-at-requires
 put-at-requires c κs =
     let x = c .before .before in
     let s = begun (asked x) in
-    cut-fits (piece (asked x)) (s .args .dst .now) (s .pre .1) (again x)
+    omega (arith, ap length (again x) ∙ cut-length 6 (s .args .src .now) (s .args .at) (there (asked x)), there (asked x), s .pre .1)
 
 returns : tie.Need-returns
 returns c =
     let put = c .before .before in
     let x = put .before .before .before in
     let a = begun (asked x) .args in
-    cut-laid (piece (asked x)) (a .dst .now) (a .at) (again x) (put .put-at .ensures)
+    cut-laid 6 (a .src .now) (a .at) (a .has) (asked x .if1 .taken) (a .dst .now) (a .at) (again x) (put .put-at .ensures)
 
 pub rewrite-color-spec : {M : Type 1} → statement M
 rewrite-color-spec =
     tie.close
     (tie.spec
-    (λ c. search needs) (λ c. search needs) (λ c. search needs) (λ c. there (piece c)) (λ c κs. search needs) (λ c κs. search needs) (λ c κs. search needs) (λ c κs. search needs) (λ c. search needs) put-at-requires (λ c. search needs) returns (λ c. search needs))
+    (λ c. search needs) (λ c. search needs) (λ c. search needs) there (λ c κs. search needs) (λ c κs. search needs) (λ c κs. search needs) (λ c κs. search needs) (λ c. search needs) put-at-requires (λ c. search needs) returns (λ c. search needs))
