@@ -7,7 +7,7 @@ use mathlib.Core.List.{List, [], _∷_, _++_}
 use native.Mathlib.Omega.{arith}
 use lib.ListN.{length, take, drop, length-append, length-take, length-drop}
 use lib.Seq.{sets, take-all, take-at, drop-at, drop-drop, length-take-le}
-use mir.Syntax.{w8, w16, w32}
+use mir.Syntax.{w8, w16}
 use mir.Val.{ofZ, toZ}
 use Rattle.le.specs.Le.{num, bytes, Bytes}
 use Rattle.le.specs.Laws.{num-take}
@@ -26,16 +26,16 @@ use Rattle.angle.specs.declared.ScanAngle.the-variants.{Rank, Scaled}
 use Rattle.angle.specs.Angle.{nearestRank, toRank, toScaled}
 use Rattle.point.specs.declared.Point.{Point}
 use Rattle.point.specs.Read.{flagsAt, angleAt, fieldOf, pointOf}
-use Rattle.point_bytes.specs.Bytes.{timeBytes, colorBytes, nirBytes, waveformBytes, threeList, coreOf, legacyCoreOf}
+use Rattle.point_bytes.specs.Bytes.{timeBytes, colorBytes, nirBytes, waveformBytes, threeList}
 use Rattle.point_write.specs.Write.{twoList, joined, recordOf, onlyBytes}
-use Rattle.point_write.specs.Laws.{only-length, no-stores, rest-is, extended-is, legacy-is, time-length, color-length, nir-length}
+use Rattle.point_write.specs.Laws.{only-length, no-stores, rest-is, front, middle, legacyMiddle, extended-parts, legacy-parts, time-length, color-length, nir-length}
 use Rattle.point_write.specs.Theorems.{read-then-written}
 use Rattle.strict.specs.declared.Fit.the-variants.{Fits}
 use Rattle.strict.specs.Fit.{angleFitOf}
 use Rattle.strict.specs.Whole.{angle-exact, fit-parts, fits-two}
 use Rattle.strict.specs.Upgrade.{upgradedFlags, upgradedOld, upgradedBy, upgradedOf}
 use Rattle.pairs.specs.declared.Plan.{Plan}
-use Rattle.pairs.specs.Paired.{Paired, Mates}
+use Rattle.pairs.specs.Paired.{Paired, Beside, Mates}
 use Rattle.pairs.specs.Sound.{not-up}
 use Rattle.convert.specs.Run.{turnedOf, imageOf}
 use Rattle.convert.specs.Asked.{Takes}
@@ -75,20 +75,13 @@ restAt a from b s =
 abbrev pub restFrom : Format → Format → List ℕ → List ℕ
 restFrom a b s = restAt a (placesOf a) b s
 
--- the formats have the same pieces, but for a near infrared, which comes beside a colour
+-- the formats have the same pieces, but for a near infrared
 abbrev pub Alike : Format → Format → Type 0
-Alike a b =
-    (b .«has_gps_time» ≡ a .«has_gps_time») × (b .«has_color» ≡ a .«has_color») × (b .«has_waveform» ≡ a .«has_waveform»)
-    × (cond (b .«has_nir») 2 0 ≤ cond (a .«has_color») 6 0)
-
-beside : (nir color : Bool) → (nir && color) ≡ nir → cond nir 2 0 ≤ cond color 6 0
-beside true true e = omega arith
-beside true false e = not-up e
-beside false color e = omega arith
+Alike a b = (b .«has_gps_time» ≡ a .«has_gps_time») × (b .«has_color» ≡ a .«has_color») × (b .«has_waveform» ≡ a .«has_waveform»)
 
 pub alike : (up : Bool) (a b : Format) → Mates up a b → Alike a b
-alike true a b mates = (mates .time, mates .color, mates .waveform, rw (← (mates .color)) (beside (b .«has_nir») (b .«has_color») (mates .nir-color)))
-alike false a b mates = (sym (mates .time), sym (mates .color), sym (mates .waveform), rw (mates .no-nir) (omega arith))
+alike true a b mates = (mates .time, mates .color, mates .waveform)
+alike false a b mates = (sym (mates .time), sym (mates .color), sym (mates .waveform))
 
 -- the whole
 abbrev pub movedOf : Bool → Plan → List ℕ → List ℕ
@@ -112,24 +105,6 @@ fits-taken s m =
 -- a piece of n bytes at a place, and what stands after it
 piece : (s x y : List ℕ) (at n : ℕ) → drop at s ≡ x ++ y → length x ≡ n → (take n (drop at s) ≡ x) × (drop (at + n) s ≡ y)
 piece s x y at n e l = (ap (take n) e ∙ take-at x y n l, sym (drop-drop n at s) ∙ ap (drop n) e ∙ drop-at x y n l)
-
--- the bytes before the flags, and those made anew
-abbrev front : Point → List ℕ
-front p = bytes 4 (ofZ w32 (p .x)) ++ (bytes 4 (ofZ w32 (p .y)) ++ (bytes 4 (ofZ w32 (p .z)) ++ bytes 2 (p .intensity)))
-
-abbrev newMade : Point → List ℕ
-newMade p = threeList (threeBytesOf (p .flags)) ++ (p .«user_data» ∷ bytes 2 (ofZ w16 (toScaled (p .«scan_angle»))))
-
-abbrev oldMade : Point → ℕ → ℕ → List ℕ
-oldMade p x y = x ∷ y ∷ ofZ w8 (toRank (p .«scan_angle»)) ∷ p .«user_data» ∷ []
-
-new-split : (p : Point) (rest : List ℕ) → coreOf p ++ rest ≡ front p ++ (newMade p ++ (bytes 2 (p .«point_source_id») ++ rest))
-unfolding coreOf
-new-split p rest = refl
-
-old-split : (p : Point) (x y : ℕ) (rest : List ℕ) → legacyCoreOf p x y ++ rest ≡ front p ++ (oldMade p x y ++ (bytes 2 (p .«point_source_id») ++ rest))
-unfolding legacyCoreOf
-old-split p x y rest = refl
 
 -- a record of a whole source
 module _ (a : Format) (s : List ℕ) (all : Bytes s) (whole : recordBytes a ≡ length s) where
@@ -177,16 +152,16 @@ module _ (a : Format) (s : List ℕ) (all : Bytes s) (whole : recordBytes a ≡ 
     unfolding pointOf angleAt
     rank-exact fits = angle-exact (Scaled (toZ w16 (num 2 18 s))) (rw (pair .is-new) at fits)
 
-    old-made : oldMade point x y ≡ oldMiddle s
+    old-made : legacyMiddle a point extra x y ≡ oldMiddle s
     unfolding oldMiddle pointOf angleAt
     old-made = rw (goes, pair .is-new)
 
     old-moved : recordOf b point extra ≡ take 14 s ++ (oldMiddle s ++ restFrom a b s)
     old-moved =
-        let before : s ≡ front point ++ (newMade point ++ (bytes 2 (point .«point_source_id») ++ rest)) = sym itself ∙ extended-is a point extra (pair .is-new) ∙ new-split point rest in
+        let before : s ≡ front a point extra ++ (middle a point extra ++ (bytes 2 (point .«point_source_id») ++ rest)) = sym itself ∙ extended-parts a point extra (pair .is-new) in
         let long : 20 ≡ placeOf a PointSourceId = sym (ap (λ (c : Bool). cond c 20 18) (pair .is-new)) in
-        let moved = rest-moved b point (front point ++ newMade point) before long (alike false a b pair) refl refl refl refl (rw (pair .no-nir)) in
-        legacy-is b point extra x y (pair .is-old) is-two ∙ old-split point x y _
+        let moved = rest-moved b point (front a point extra ++ middle a point extra) before long (alike false a b pair) refl refl refl refl (rw (pair .no-nir)) in
+        legacy-parts b point extra x y (pair .is-old) is-two
         ∙ (λ i. sym (ap (take 14) before) i ++ (old-made i ++ moved i))
 
   -- up: the old record's fields, and the new record that says the same
@@ -206,17 +181,17 @@ module _ (a : Format) (s : List ℕ) (all : Bytes s) (whole : recordBytes a ≡ 
     unfolding twoBytesOf
     two-bytes = ap twoBytesOf old-flags
 
-    new-made : newMade raised ≡ newMiddle s
+    new-made : middle b raised extra ≡ newMiddle s
     unfolding newMiddle upgradedOld pointOf angleAt
     new-made = rw (pair .is-old)
 
     new-moved : recordOf b (upgradedOf point) extra ≡ take 14 s ++ (newMiddle s ++ restFrom a b s)
     unfolding upgradedOld
     new-moved =
-        let before : s ≡ front point ++ (oldMade point (num 1 14 s) (num 1 15 s) ++ (bytes 2 (point .«point_source_id») ++ rest)) = sym itself ∙ legacy-is a point extra _ _ (pair .is-old) two-bytes ∙ old-split point _ _ rest in
+        let before : s ≡ front a point extra ++ (legacyMiddle a point extra (num 1 14 s) (num 1 15 s) ++ (bytes 2 (point .«point_source_id») ++ rest)) = sym itself ∙ legacy-parts a point extra _ _ (pair .is-old) two-bytes in
         let long : 18 ≡ placeOf a PointSourceId = sym (ap (λ (c : Bool). cond c 20 18) (pair .is-old)) in
-        let moved = rest-moved b raised (front point ++ oldMade point (num 1 14 s) (num 1 15 s)) before long (alike true a b pair) refl refl refl refl refl in
-        ap (λ (q : Point). recordOf b q extra) is-raised ∙ extended-is b raised extra (pair .is-new) ∙ new-split raised _
+        let moved = rest-moved b raised (front a point extra ++ legacyMiddle a point extra (num 1 14 s) (num 1 15 s)) before long (alike true a b pair) refl refl refl refl refl in
+        ap (λ (q : Point). recordOf b q extra) is-raised ∙ extended-parts b raised extra (pair .is-new)
         ∙ (λ i. sym (ap (take 14) before) i ++ (new-made i ++ moved i))
 
 -- the image of a record that the writer takes
@@ -279,6 +254,13 @@ pub record Moving (a b : Format) (from to : Places) (s : List ℕ) : Type 0 wher
   pub is-to : to ≡ placesOf b
   pub there : from .waveform ≤ length s
   pub same : Alike a b
+  pub beside : Beside b
+
+-- a near infrared takes bytes only where a colour does
+nir-le : (nir color : Bool) → (nir && color) ≡ nir → cond nir 2 0 ≤ cond color 6 0
+nir-le true true e = omega arith
+nir-le true false e = not-up e
+nir-le false color e = omega arith
 
 -- the source id and the pieces after it, laid one after the other at their places in the target
 module _ {a b : Format} {from to : Places} {s : List ℕ} (m : Moving a b from to s) where
@@ -312,4 +294,5 @@ module _ {a b : Format} {from to : Places} {s : List ℕ} (m : Moving a b from t
   pub last-none : (e2 : List ℕ) → length s ≡ from .color → e2 ≡ sets e2 (to .color) (lastAt a from b s)
   last-none e2 ends =
       let f = places-follow a from (m .is-from) in
-      no-stores e2 (to .color) (lastAt a from b s) (simp (length-append, length-take, length-drop) (omega (arith, f .2, f .3, m .there, m .same .3, only-length (b .«has_nir») (bytes 2 0) 2 refl)))
+      let no-nir : cond (b .«has_nir») 2 0 ≤ cond (a .«has_color») 6 0 = rw (← (m .same .1)) (nir-le (b .«has_nir») (b .«has_color») (m .beside)) in
+      no-stores e2 (to .color) (lastAt a from b s) (simp (length-append, length-take, length-drop) (omega (arith, f .2, f .3, m .there, no-nir, only-length (b .«has_nir») (bytes 2 0) 2 refl)))

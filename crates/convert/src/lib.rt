@@ -11,6 +11,7 @@ ghost use Rattle.format.specs.declared.Field.the-variants.{PointSourceId, Wavef
 ghost use Rattle.format.specs.Fields.{placeOf};
 ghost use Rattle.point.specs.Read.{pointOf};
 ghost use Rattle.point_write.specs.Write.{onlyBytes};
+ghost use Rattle.pairs.specs.Paired.{Beside};
 ghost use Rattle.pairs.specs.Sound.{Sound};
 ghost use Rattle.judge.specs.Laws.{Ready};
 ghost use Rattle.convert.specs.Run.{turnedOf, imageOf, imagesOf, doneOf, toOldOf, toNewOf};
@@ -174,7 +175,7 @@ fn put_no_nir(dst: &mut [u8], at: usize, has: bool)
 
 // The source id and what stands after it, from place to place.
 fn move_rest(src: &[u8], source: Format, dst: &mut [u8], target: Format)
-    requires { ⌜ (placeOf source Waveform ≤ length (now src)) × (placeOf target Waveform + length (drop (placeOf source Waveform) (now src)) ≤ length (now dst)) × Alike source target ⌝ }
+    requires { ⌜ (placeOf source Waveform ≤ length (now src)) × (placeOf target Waveform + length (drop (placeOf source Waveform) (now src)) ≤ length (now dst)) × Alike source target × Beside target ⌝ }
     ensures { λ _. ⌜ now (dst .exit) ≡ sets (now (dst .entry)) (placeOf target PointSourceId) (restFrom source target (now (src .entry))) ⌝ }
 {
     let from = layout::places_for(source);

@@ -7,14 +7,18 @@ use native.Mathlib.Omega.{arith}
 use borrow.Author.Tests.{eq-eqb, le-ltb}
 use lib.ListN.{length, drop, length-append}
 use lib.Seq.{sets}
+use mir.Syntax.{w8, w16, w32}
+use mir.Val.{ofZ}
+use Rattle.le.specs.Le.{bytes}
 use Rattle.lent.specs.declared.Wrote.the-variants as Wrote
 use Rattle.format.specs.declared.Format.{Format}
 use Rattle.format.specs.declared.Field.{Field}
 use Rattle.format.specs.declared.Field.the-variants.{GpsTime, Color, Nir, Waveform, ExtraBytes}
 use Rattle.format.specs.Fields.{only, restOf, fieldsOf, sizes}
 use Rattle.format.specs.Laws.{sizes-append, sizes-only}
-use Rattle.flags.specs.Bytes.{twoBytesOf}
+use Rattle.flags.specs.Bytes.{twoBytesOf, threeBytesOf}
 use Rattle.flags.specs.declared.TwoBytes.the-variants.{Bytes}
+use Rattle.angle.specs.Angle.{toRank, toScaled}
 use Rattle.point.specs.declared.MaybeTime.{MaybeTime}
 use Rattle.point.specs.declared.MaybeTime.the-variants as some-time
 use Rattle.point.specs.declared.MaybeColor.{MaybeColor}
@@ -24,7 +28,7 @@ use Rattle.point.specs.declared.MaybeWaveform.the-variants as some-waveform
 use Rattle.point.specs.declared.MaybeNir.{MaybeNir}
 use Rattle.point.specs.declared.MaybeNir.the-variants as some-nir
 use Rattle.point.specs.declared.Point.{Point}
-use Rattle.point_bytes.specs.Bytes.{coreOf, legacyCoreOf, timeBytes, colorBytes, nirBytes, waveformBytes}
+use Rattle.point_bytes.specs.Bytes.{coreOf, legacyCoreOf, threeList, timeBytes, colorBytes, nirBytes, waveformBytes}
 use Rattle.point_write.specs.Write.{fieldBytes, joined, recordOf, onlyBytes, flaggedOf, sizedOf}
 
 -- a piece that may be missing
@@ -71,6 +75,24 @@ module _ (f : Format) (p : Point) (e : List ℕ) where
   pub legacy-is : (a b : ℕ) → f .«is_extended» ≡ false → twoBytesOf (p .flags) ≡ Bytes a b → recordOf f p e ≡ legacyCoreOf p a b ++ joined f p e (restOf f)
   unfolding recordOf fieldsOf joined legacyCoreOf
   legacy-is a b h t = rw (h, t)
+
+  -- and the parts of what stands before it: x, y, z and intensity; flags, angle and user data; source id
+  abbrev pub front : List ℕ
+  front = bytes 4 (ofZ w32 (p .x)) ++ (bytes 4 (ofZ w32 (p .y)) ++ (bytes 4 (ofZ w32 (p .z)) ++ bytes 2 (p .intensity)))
+
+  abbrev pub middle : List ℕ
+  middle = threeList (threeBytesOf (p .flags)) ++ (p .«user_data» ∷ bytes 2 (ofZ w16 (toScaled (p .«scan_angle»))))
+
+  abbrev pub legacyMiddle : ℕ → ℕ → List ℕ
+  legacyMiddle a b = a ∷ b ∷ ofZ w8 (toRank (p .«scan_angle»)) ∷ p .«user_data» ∷ []
+
+  pub extended-parts : f .«is_extended» ≡ true → recordOf f p e ≡ front ++ (middle ++ (bytes 2 (p .«point_source_id») ++ joined f p e (restOf f)))
+  unfolding coreOf
+  extended-parts h = extended-is h
+
+  pub legacy-parts : (a b : ℕ) → f .«is_extended» ≡ false → twoBytesOf (p .flags) ≡ Bytes a b → recordOf f p e ≡ front ++ (legacyMiddle a b ++ (bytes 2 (p .«point_source_id») ++ joined f p e (restOf f)))
+  unfolding legacyCoreOf
+  legacy-parts a b h t = legacy-is a b h t
 
   -- each field after the source id takes the table's bytes
   pub time-length : (t : MaybeTime) → length (timeBytes t) ≡ 8

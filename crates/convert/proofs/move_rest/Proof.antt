@@ -29,7 +29,7 @@ module _ (x : tie.After-places-for2) where
   room = within (begun .args .target) _ _ (begun .pre .2 .0) (begun .pre .2 .1) to (x .places-for2 .ensures) _ (omega (arith, begun .pre .1))
 
   moving : Moving (begun .args .source) (begun .args .target) from to (begun .args .src .now)
-  moving = record { is-from = x .before .places-for .ensures; is-to = x .places-for2 .ensures; there = there .4; same = begun .pre .2 }
+  moving = record { is-from = x .before .places-for .ensures; is-to = x .places-for2 .ensures; there = there .4; same = begun .pre .2; beside = begun .pre .3 }
 
 move-two-requires : tie.Need-move-two-requires
 move-two-requires c κs = (there (c .before) .0, room (c .before) .0)

@@ -76,6 +76,7 @@ move-rest-requires c κs =
       omega (arith, size s, record-end (a .plan .source)),
       simp length-drop (omega (arith, x .move-eight .kept .1 .1 .0, second .move-eight2 .kept .1 .1 .0, middle .write-middle .kept .1 .1 .0, size s, room s, record-end (a .plan .source), record-end (a .plan .target), waveform, same-extra (a .up) (a .plan .source) (a .plan .target) (s .pre .0 .mates))),
       same,
+      s .pre .0 .beside,
     )
 
 returns : tie.Need-returns
