@@ -25,7 +25,8 @@ use Rattle.flags.specs.Bytes.{twoBytesOf, threeBytesOf}
 use Rattle.angle.specs.declared.ScanAngle.the-variants.{Rank, Scaled}
 use Rattle.angle.specs.Angle.{nearestRank, toRank, toScaled}
 use Rattle.point.specs.declared.Point.{Point}
-use Rattle.point.specs.Read.{flagsAt, angleAt, fieldOf, pointOf}
+use Rattle.point.specs.Read.{angleAt, fieldOf, pointOf}
+use Rattle.point.specs.Kind.{new-flags, old-flags, new-angle}
 use Rattle.point_bytes.specs.Bytes.{timeBytes, colorBytes, nirBytes, waveformBytes, threeList}
 use Rattle.point_write.specs.Write.{twoList, joined, recordOf, onlyBytes}
 use Rattle.point_write.specs.Laws.{only-length, no-stores, rest-is, front, middle, legacyMiddle, extended-parts, legacy-parts, time-length, color-length, nir-length}
@@ -141,16 +142,11 @@ module _ (a : Format) (s : List ℕ) (all : Bytes s) (whole : recordBytes a ≡ 
 
   -- down: the new record's fields, and the old record that says the same
   module _ (b : Format) (pair : Paired a b) (x y : ℕ) (is-two : twoBytesOf (point .flags) ≡ two.Bytes x y) where
-    new-flags : point .flags ≡ ThreeByte (num 1 14 s) (num 1 15 s) (num 1 16 s)
-    unfolding pointOf flagsAt
-    new-flags = rw (pair .is-new)
-
     pub goes : twoOf s ≡ two.Bytes x y
-    goes = ap twoBytesOf (sym new-flags) ∙ is-two
+    goes = ap twoBytesOf (sym (new-flags a s (pair .is-new))) ∙ is-two
 
     pub rank-exact : angleFitOf (point .«scan_angle») ≡ Fits → toRank (Scaled (toZ w16 (num 2 18 s))) ≡ nearestRank (toZ w16 (num 2 18 s))
-    unfolding pointOf angleAt
-    rank-exact fits = angle-exact (Scaled (toZ w16 (num 2 18 s))) (rw (pair .is-new) at fits)
+    rank-exact fits = angle-exact (Scaled (toZ w16 (num 2 18 s))) (rw (new-angle a s (pair .is-new)) at fits)
 
     old-made : legacyMiddle a point extra x y ≡ oldMiddle s
     unfolding oldMiddle pointOf angleAt
@@ -166,20 +162,16 @@ module _ (a : Format) (s : List ℕ) (all : Bytes s) (whole : recordBytes a ≡ 
 
   -- up: the old record's fields, and the new record that says the same
   module _ (b : Format) (pair : Paired b a) where
-    old-flags : point .flags ≡ TwoByte (num 1 14 s) (num 1 15 s)
-    unfolding pointOf flagsAt
-    old-flags = rw (pair .is-old)
-
     abbrev raised : Point
     raised = upgradedOld point (num 1 14 s) (num 1 15 s)
 
     is-raised : upgradedOf point ≡ raised
     unfolding upgradedOf
-    is-raised = ap (upgradedBy point) old-flags
+    is-raised = ap (upgradedBy point) (old-flags a s (pair .is-old))
 
     two-bytes : twoBytesOf (point .flags) ≡ two.Bytes (num 1 14 s) (num 1 15 s)
     unfolding twoBytesOf
-    two-bytes = ap twoBytesOf old-flags
+    two-bytes = ap twoBytesOf (old-flags a s (pair .is-old))
 
     new-made : middle b raised extra ≡ newMiddle s
     unfolding newMiddle upgradedOld pointOf angleAt

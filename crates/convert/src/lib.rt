@@ -202,8 +202,12 @@ fn write_middle(src: &[u8], up: bool, dst: &mut [u8])
         put_at(dst, 14, &bytes);
         return;
     }
+    // one by one: at once, the compiler would first put the four together in a number
     let bytes = old_middle(&src[..20]);
-    put_at(dst, 14, &bytes);
+    dst[14] = bytes[0];
+    dst[15] = bytes[1];
+    dst[16] = bytes[2];
+    dst[17] = bytes[3];
 }
 
 // Those of an old record made new.

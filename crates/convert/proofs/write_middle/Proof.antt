@@ -1,10 +1,11 @@
-use Prim.Native.Nat.{_≤_}
-use mathlib.Core.Path.{sym}
+use Prim.Native.Nat.{ℕ, _≤_}
+use mathlib.Core.Path.{_≡_, refl, ap, sym, _∙_}
+use mathlib.Core.List.{List, [], _∷_}
 use native.Mathlib.Omega.{arith}
 use borrow.Author.Needs.{needs}
-use lib.ListN.{length}
-use lib.Seq.{length-take-le}
-use Rattle.convert.specs.Moved.{fits-taken, old-taken, new-taken}
+use lib.ListN.{length, getD, set, length-set}
+use lib.Seq.{sets, length-take-le}
+use Rattle.convert.specs.Moved.{fits-taken, old-taken, old-length, new-taken}
 use Rattle.convert.proofs.write_middle.Statement.{statement}
 use Rattle.convert.proofs.write_middle.Tie as tie
 
@@ -36,12 +37,22 @@ old-middle-requires c κs =
     let s = x .before .before .before in
     fits-taken (s .args .src .now) (rw (x .if1 .left) at (s .pre .2))
 
+-- four bytes that are stored one by one
+four : (d l : List ℕ) → length l ≡ 4 → set (set (set (set d 14 (getD l 0 0)) 15 (getD l 1 0)) 16 (getD l 2 0)) 17 (getD l 3 0) ≡ sets d 14 l
+four d [] e = absurd (omega (arith, e))
+four d (a ∷ []) e = absurd (omega (arith, e))
+four d (a ∷ b ∷ []) e = absurd (omega (arith, e))
+four d (a ∷ b ∷ c ∷ []) e = absurd (omega (arith, e))
+four d (a ∷ b ∷ c ∷ f ∷ []) e = refl
+four d (a ∷ b ∷ c ∷ f ∷ g ∷ l) e = absurd (omega (arith, e))
+
 returns-2 : tie.Need-returns-2
 returns-2 c =
-    let put = c .before .before in
-    let old = put .before .before .before in
-    let x = old .before .before in
-    rw (x .if1 .left) (rw (old .old-middle .ensures, old-taken (x .before .before .before .args .src .now)) at (put .put-at2 .ensures))
+    let x = c .before .before in
+    let s = x .before .before .before in
+    let fits = rw (x .if1 .left) at (s .pre .2) in
+    let made = c .old-middle .ensures ∙ old-taken (s .args .src .now) in
+    rw (x .if1 .left) (four (s .args .dst .now) (c .old-middle .result) (ap length made ∙ old-length (s .args .src .now) fits) ∙ ap (sets (s .args .dst .now) 14) made)
 
 pub write-middle-spec : {M : Type 1} → statement M
 write-middle-spec =
@@ -49,5 +60,9 @@ write-middle-spec =
     (tie.spec
     (λ c. sym (length-take-le 18 (c .before .before .before .before .args .src .now) (new-there (c .before)))) (λ c κs. search needs) (λ c. search needs)
     (λ c κs. omega (arith, new-room (c .before .before .before .before))) (λ c. search needs) returns
-    (λ c. sym (length-take-le 20 (c .before .before .before .before .args .src .now) (old-there (c .before)))) old-middle-requires (λ c. search needs)
-    (λ c κs. omega (arith, old-room (c .before .before .before .before))) (λ c. search needs) returns-2)
+    (λ c. sym (length-take-le 20 (c .before .before .before .before .args .src .now) (old-there (c .before)))) old-middle-requires
+    (λ c. search needs) (λ c. omega (arith, old-room (c .before .before)))
+    (λ c. search needs) (λ c. rw length-set (omega (arith, old-room (c .before .before))))
+    (λ c. search needs) (λ c. rw (length-set, length-set) (omega (arith, old-room (c .before .before))))
+    (λ c. search needs) (λ c. rw (length-set, length-set, length-set) (omega (arith, old-room (c .before .before))))
+    (λ c. search needs) returns-2)
