@@ -18,6 +18,7 @@ use Rattle.format.specs.Fields.{restOf, placeOf, recordBytes}
 use Rattle.format.specs.Laws.{after-source}
 use Rattle.layout.specs.declared.Places.{Places}
 use Rattle.layout.specs.Layout.{placesOf}
+use Rattle.layout.specs.Following.{following}
 use Rattle.flags.specs.declared.Flags.the-variants.{TwoByte, ThreeByte}
 use Rattle.flags.specs.declared.TwoBytes.{TwoBytes}
 use Rattle.flags.specs.declared.TwoBytes.the-variants as two
@@ -217,11 +218,6 @@ pub middle-end : (up : Bool) (a b : Format) → Mates up a b → (s : List ℕ) 
 middle-end true a b mates s m = ap (λ (n : ℕ). 14 + n) (new-length s) ∙ sym (ap (λ (c : Bool). cond c 20 18) (mates .is-new))
 middle-end false a b mates s m = ap (λ (n : ℕ). 14 + n) (old-length s m) ∙ sym (ap (λ (c : Bool). cond c 20 18) (mates .is-old))
 
--- the places of a format follow each other
-pub places-follow : (f : Format) (p : Places) → p ≡ placesOf f → (p .«gps_time» ≡ p .«point_source_id» + 2) × (p .color ≡ p .«gps_time» + cond (f .«has_gps_time») 8 0) × (p .nir ≡ p .color + cond (f .«has_color») 6 0) × (p .waveform ≡ p .nir + cond (f .«has_nir») 2 0)
-unfolding placesOf
-places-follow f p e = rw e (after-source (f .«is_extended»), refl, refl, refl)
-
 -- the pieces lie in the first n bytes, at these places
 abbrev pub Within : Places → Bool → Bool → Bool → ℕ → Type 0
 Within p time color nir n =
@@ -264,27 +260,27 @@ module _ {a b : Format} {from to : Places} {s : List ℕ} (m : Moving a b from t
   pub time-laid : (d : List ℕ) {e1 e2 : List ℕ} → e1 ≡ sets d (to .«point_source_id») (take 2 (drop (from .«point_source_id») s)) → e2 ≡ sets e1 (to .«gps_time») (take (cond (a .«has_gps_time») 8 0) (drop (from .«gps_time») s)) → sets e2 (to .color) (lastAt a from b s) ≡ sets d (placeOf b PointSourceId) (restFrom a b s)
   unfolding placesOf
   time-laid d {e1} {e2} h1 h2 =
-      let f = places-follow a from (m .is-from) in
-      let g = places-follow b to (m .is-to) in
+      let f = following a (m .is-from) in
+      let g = following b (m .is-to) in
       let t : List ℕ = take (cond (a .«has_gps_time») 8 0) (drop (from .«gps_time») s) in
-      extended e1 t (lastAt a from b s) (to .«gps_time») (to .color) h2 (rw (took s (from .«gps_time») (cond (a .«has_gps_time») 8 0) (omega (arith, f .1, f .2, f .3, m .there)), ← (m .same .0)) (g .1))
-      ∙ extended d (take 2 (drop (from .«point_source_id») s)) (t ++ lastAt a from b s) (to .«point_source_id») (to .«gps_time») h1 (rw (took s (from .«point_source_id») 2 (omega (arith, f .0, f .1, f .2, f .3, m .there))) (g .0))
+      extended e1 t (lastAt a from b s) (to .«gps_time») (to .color) h2 (rw (took s (from .«gps_time») (cond (a .«has_gps_time») 8 0) (omega (arith, f .color, f .nir, f .waveform, m .there)), ← (m .same .0)) (g .color))
+      ∙ extended d (take 2 (drop (from .«point_source_id») s)) (t ++ lastAt a from b s) (to .«point_source_id») (to .«gps_time») h1 (rw (took s (from .«point_source_id») 2 (omega (arith, f .time, f .color, f .nir, f .waveform, m .there))) (g .time))
       ∙ (λ i. sets d (m .is-to i .«point_source_id») (restAt a (m .is-from i) b s))
 
   -- the others
   pub last-laid : (e2 : List ℕ) {e3 e4 e5 : List ℕ} → e3 ≡ sets e2 (to .color) (take (cond (a .«has_color») 6 0) (drop (from .color) s)) → e4 ≡ sets e3 (to .nir) (onlyBytes (b .«has_nir») (bytes 2 0)) → e5 ≡ sets e4 (to .waveform) (take (length s - from .waveform) (drop (from .waveform) s)) → e5 ≡ sets e2 (to .color) (lastAt a from b s)
   last-laid e2 {e3} {e4} {e5} h3 h4 h5 =
-      let f = places-follow a from (m .is-from) in
-      let g = places-follow b to (m .is-to) in
+      let f = following a (m .is-from) in
+      let g = following b (m .is-to) in
       let n : List ℕ = onlyBytes (b .«has_nir») (bytes 2 0) in
       let w : List ℕ = drop (from .waveform) s in
       h5 ∙ ap (sets e4 (to .waveform)) (take-all (length s - from .waveform) w (simp length-drop (omega (arith, m .there))))
-      ∙ extended e3 n w (to .nir) (to .waveform) h4 (rw (only-length (b .«has_nir») (bytes 2 0) 2 refl) (g .3))
-      ∙ extended e2 (take (cond (a .«has_color») 6 0) (drop (from .color) s)) (n ++ w) (to .color) (to .nir) h3 (rw (took s (from .color) (cond (a .«has_color») 6 0) (omega (arith, f .2, f .3, m .there)), ← (m .same .1)) (g .2))
+      ∙ extended e3 n w (to .nir) (to .waveform) h4 (rw (only-length (b .«has_nir») (bytes 2 0) 2 refl) (g .waveform))
+      ∙ extended e2 (take (cond (a .«has_color») 6 0) (drop (from .color) s)) (n ++ w) (to .color) (to .nir) h3 (rw (took s (from .color) (cond (a .«has_color») 6 0) (omega (arith, f .nir, f .waveform, m .there)), ← (m .same .1)) (g .nir))
 
   -- there are none in a record that ends after the time
   pub last-none : (e2 : List ℕ) → length s ≡ from .color → e2 ≡ sets e2 (to .color) (lastAt a from b s)
   last-none e2 ends =
-      let f = places-follow a from (m .is-from) in
+      let f = following a (m .is-from) in
       let no-nir : cond (b .«has_nir») 2 0 ≤ cond (a .«has_color») 6 0 = rw (← (m .same .1)) (nir-le (b .«has_nir») (b .«has_color») (m .beside)) in
-      no-stores e2 (to .color) (lastAt a from b s) (simp (length-append, length-take, length-drop) (omega (arith, f .2, f .3, m .there, no-nir, only-length (b .«has_nir») (bytes 2 0) 2 refl)))
+      no-stores e2 (to .color) (lastAt a from b s) (simp (length-append, length-take, length-drop) (omega (arith, f .nir, f .waveform, m .there, no-nir, only-length (b .«has_nir») (bytes 2 0) 2 refl)))

@@ -202,12 +202,7 @@ fn write_middle(src: &[u8], up: bool, dst: &mut [u8])
         put_at(dst, 14, &bytes);
         return;
     }
-    // one by one: at once, the compiler would first put the four together in a number
-    let bytes = old_middle(&src[..20]);
-    dst[14] = bytes[0];
-    dst[15] = bytes[1];
-    dst[16] = bytes[2];
-    dst[17] = bytes[3];
+    write_old_middle(&src[..20], dst);
 }
 
 // Those of an old record made new.
@@ -228,10 +223,11 @@ fn new_middle(core: &[u8]) -> [u8; 6]
     ]
 }
 
-// Those of a new record made old. They fit, since the run was judged: nothing is tested, and the rank is not held.
-fn old_middle(core: &[u8]) -> [u8; 4]
-    requires { ⌜ MiddleFits false (now core) ⌝ }
-    ensures { λ r. ⌜ r ≡ oldMiddle (now (core .entry)) ⌝ }
+// Those of a new record made old. They fit, since the run was judged: nothing is tested, and the rank is not held. Each byte is stored
+// by itself: an array of four the compiler would put together as a number, with shifts.
+fn write_old_middle(core: &[u8], dst: &mut [u8])
+    requires { ⌜ (18 ≤ length (now dst)) × MiddleFits false (now core) ⌝ }
+    ensures { λ _. ⌜ now (dst .exit) ≡ sets (now (dst .entry)) 14 (oldMiddle (now (core .entry))) ⌝ }
 {
     let flags = flags::fitted_bytes(
         le::u8_at(core, 14),
@@ -239,5 +235,8 @@ fn old_middle(core: &[u8]) -> [u8; 4]
         le::u8_at(core, 16),
     );
     let rank = angle::nearest_rank(le::i16_at(core, 18)) as i8;
-    [flags.a, flags.b, signed::bits8(rank), le::u8_at(core, 17)]
+    dst[14] = flags.a;
+    dst[15] = flags.b;
+    dst[16] = signed::bits8(rank);
+    dst[17] = le::u8_at(core, 17);
 }

@@ -1,2 +1,3 @@
 pub mod Layout
+pub mod Following
 pub mod Theorems

@@ -80,26 +80,10 @@ module _ (e : Bool) (s : List ℕ) (long : length s ≡ cond e 22 20) where
       ∙ (λ i. take-length s i ++ drop-of-length-le d {i = length s} (omega arith) i)
       ∙ append-nil s
 
--- each place is where the piece before it ends
-pub record Following (f : Format) (n : ℕ) (at : Places) : Type 0 where
-  pub time : at .«gps_time» ≡ cond (f .«is_extended») 22 20
-  pub color : at .color ≡ at .«gps_time» + cond (f .«has_gps_time») 8 0
-  pub nir : at .nir ≡ at .color + cond (f .«has_color») 6 0
-  pub waveform : at .waveform ≡ at .nir + cond (f .«has_nir») 2 0
-  pub extra : at .«extra_bytes» ≡ at .waveform + cond (f .«has_waveform») 29 0
-  pub ends : at .«extra_bytes» ≤ n
-
-pub following : (f : Format) (s : List ℕ) {at : Places} → PointPart f s → at ≡ placesOf f → Following f (length s) at
+-- the extra bytes begin in the record
+pub extra-within : (f : Format) (s : List ℕ) {at : Places} → PointPart f s → at ≡ placesOf f → at .«extra_bytes» ≤ length s
 unfolding placesOf
-following f s whole e =
-    rw e (record {
-      time = refl;
-      color = refl;
-      nir = refl;
-      waveform = refl;
-      extra = refl;
-      ends = omega (arith, record-end f, len-is f (length s) whole);
-    })
+extra-within f s whole e = rw e (omega (arith, record-end f, len-is f (length s) whole))
 
 -- the record s, laid over d
 module _ (s d : List ℕ) (same : length d ≡ length s) where

@@ -10,7 +10,8 @@ use lib.Seq.{sets, length-take-le, take-all}
 use Rattle.lent.specs.Laws.{whole}
 use Rattle.rewrite.specs.Back.{pointBack}
 use Rattle.rewrite.specs.Laws.{point-same}
-use Rattle.rewrite.proofs.Pieces.{Following, following, Laid, laid-length, next-laid, all-laid}
+use Rattle.layout.specs.Following.{Following, following}
+use Rattle.rewrite.proofs.Pieces.{extra-within, Laid, laid-length, next-laid, all-laid}
 use Rattle.rewrite.proofs.rewrite_point.Statement.{statement}
 use Rattle.rewrite.proofs.rewrite_point.Tie as tie
 
@@ -18,12 +19,15 @@ module _ (p : tie.After-places-for) where
   abbrev begun : tie.Start
   begun = p .before .before .before
 
-  follow : Following (begun .args .format) (length (begun .args .src .now)) (p .places-for .result)
-  follow = following (begun .args .format) (begun .args .src .now) (begun .pre .0) (p .places-for .ensures)
+  follow : Following (begun .args .format) (p .places-for .result)
+  follow = following (begun .args .format) (p .places-for .ensures)
+
+  ends : p .places-for .result .«extra_bytes» ≤ length (begun .args .src .now)
+  ends = extra-within (begun .args .format) (begun .args .src .now) (begun .pre .0) (p .places-for .ensures)
 
   -- what stands before the time is in the record, and as long in the destination
   core-ends : p .places-for .result .«gps_time» ≤ length (begun .args .src .now)
-  core-ends = omega (arith, follow .color, follow .nir, follow .waveform, follow .extra, follow .ends)
+  core-ends = omega (arith, follow .color, follow .nir, follow .waveform, follow .extra, ends)
 
   core-length : length (take (p .places-for .result .«gps_time») (begun .args .src .now)) ≡ p .places-for .result .«gps_time»
   core-length = length-take-le (p .places-for .result .«gps_time») (begun .args .src .now) core-ends
@@ -51,7 +55,7 @@ module _ (p : tie.After-places-for) where
       ∙ sym (point-same (begun .args .format) (begun .args .src .now) (begun .pre .0) (λ k. omega (arith, p .before .before .shared-slice-known .given k)))
 
 rewrite-core-requires : tie.Need-rewrite-core-requires
-rewrite-core-requires c κs = let p = c .before .before in (core-length p ∙ follow p .time, core-place p ∙ sym (core-length p))
+rewrite-core-requires c κs = let p = c .before .before in (core-length p ∙ follow p .core, core-place p ∙ sym (core-length p))
 
 -- what is laid after each piece: all up to the next one
 module _ (x : tie.After-rewrite-core) where
@@ -72,7 +76,7 @@ module _ (x : tie.After-rewrite-time) where
   time-laid : LaidTo time-at (time-at .places-for .result .color) (x .rewrite-time .last .1 .1 .1 .0)
   time-laid =
       let w = follow time-at in
-      next time-at (time-at .places-for .result .«gps_time») (cond (begun time-at .args .format .«has_gps_time») 8 0) (time-at .places-for .result .color) (w .color) (omega (arith, w .nir, w .waveform, w .extra, w .ends)) (core-laid (x .before .before .before .before)) (x .rewrite-time .ensures)
+      next time-at (time-at .places-for .result .«gps_time») (cond (begun time-at .args .format .«has_gps_time») 8 0) (time-at .places-for .result .color) (w .color) (omega (arith, w .nir, w .waveform, w .extra, ends time-at)) (core-laid (x .before .before .before .before)) (x .rewrite-time .ensures)
 
 module _ (x : tie.After-rewrite-color) where
   abbrev color-at : tie.After-places-for
@@ -81,7 +85,7 @@ module _ (x : tie.After-rewrite-color) where
   color-laid : LaidTo color-at (color-at .places-for .result .nir) (x .rewrite-color .last .1 .1 .1 .0)
   color-laid =
       let w = follow color-at in
-      next color-at (color-at .places-for .result .color) (cond (begun color-at .args .format .«has_color») 6 0) (color-at .places-for .result .nir) (w .nir) (omega (arith, w .waveform, w .extra, w .ends)) (time-laid (x .before .before .before .before .before .before)) (x .rewrite-color .ensures)
+      next color-at (color-at .places-for .result .color) (cond (begun color-at .args .format .«has_color») 6 0) (color-at .places-for .result .nir) (w .nir) (omega (arith, w .waveform, w .extra, ends color-at)) (time-laid (x .before .before .before .before .before .before)) (x .rewrite-color .ensures)
 
 module _ (x : tie.After-rewrite-nir) where
   abbrev nir-at : tie.After-places-for
@@ -90,7 +94,7 @@ module _ (x : tie.After-rewrite-nir) where
   nir-laid : LaidTo nir-at (nir-at .places-for .result .waveform) (x .rewrite-nir .last .1 .1 .1 .0)
   nir-laid =
       let w = follow nir-at in
-      next nir-at (nir-at .places-for .result .nir) (cond (begun nir-at .args .format .«has_nir») 2 0) (nir-at .places-for .result .waveform) (w .waveform) (omega (arith, w .extra, w .ends)) (color-laid (x .before .before .before .before)) (x .rewrite-nir .ensures)
+      next nir-at (nir-at .places-for .result .nir) (cond (begun nir-at .args .format .«has_nir») 2 0) (nir-at .places-for .result .waveform) (w .waveform) (omega (arith, w .extra, ends nir-at)) (color-laid (x .before .before .before .before)) (x .rewrite-nir .ensures)
 
 module _ (x : tie.After-rewrite-waveform) where
   abbrev waveform-at : tie.After-places-for
@@ -99,34 +103,34 @@ module _ (x : tie.After-rewrite-waveform) where
   waveform-laid : LaidTo waveform-at (waveform-at .places-for .result .«extra_bytes») (x .rewrite-waveform .last .1 .1 .1 .0)
   waveform-laid =
       let w = follow waveform-at in
-      next waveform-at (waveform-at .places-for .result .waveform) (cond (begun waveform-at .args .format .«has_waveform») 29 0) (waveform-at .places-for .result .«extra_bytes») (w .extra) (w .ends) (nir-laid (x .before .before .before .before)) (x .rewrite-waveform .ensures)
+      next waveform-at (waveform-at .places-for .result .waveform) (cond (begun waveform-at .args .format .«has_waveform») 29 0) (waveform-at .places-for .result .«extra_bytes») (w .extra) (ends waveform-at) (nir-laid (x .before .before .before .before)) (x .rewrite-waveform .ensures)
 
 rewrite-time-requires : tie.Need-rewrite-time-requires
 rewrite-time-requires c κs =
     let x = c .before .before .before in
     let w = follow (core-at x) in
-    (omega (arith, w .color, w .nir, w .waveform, w .extra, w .ends), kept (core-at x) (core-at x .places-for .result .«gps_time») (core-laid x))
+    (omega (arith, w .color, w .nir, w .waveform, w .extra, ends (core-at x)), kept (core-at x) (core-at x .places-for .result .«gps_time») (core-laid x))
 
 rewrite-color-requires : tie.Need-rewrite-color-requires
 rewrite-color-requires c κs =
     let x = c .before .before .before .before .before in
     let w = follow (time-at x) in
-    (omega (arith, w .nir, w .waveform, w .extra, w .ends), kept (time-at x) (time-at x .places-for .result .color) (time-laid x))
+    (omega (arith, w .nir, w .waveform, w .extra, ends (time-at x)), kept (time-at x) (time-at x .places-for .result .color) (time-laid x))
 
 rewrite-nir-requires : tie.Need-rewrite-nir-requires
 rewrite-nir-requires c κs =
     let x = c .before .before .before in
     let w = follow (color-at x) in
-    (omega (arith, w .waveform, w .extra, w .ends), kept (color-at x) (color-at x .places-for .result .nir) (color-laid x))
+    (omega (arith, w .waveform, w .extra, ends (color-at x)), kept (color-at x) (color-at x .places-for .result .nir) (color-laid x))
 
 rewrite-waveform-requires : tie.Need-rewrite-waveform-requires
 rewrite-waveform-requires c κs =
     let x = c .before .before .before in
     let w = follow (nir-at x) in
-    (omega (arith, w .extra, w .ends), kept (nir-at x) (nir-at x .places-for .result .waveform) (nir-laid x))
+    (omega (arith, w .extra, ends (nir-at x)), kept (nir-at x) (nir-at x .places-for .result .waveform) (nir-laid x))
 
 rewrite-extra-requires : tie.Need-rewrite-extra-requires
-rewrite-extra-requires c κs = let x = c .before .before .before in (follow (waveform-at x) .ends, kept (waveform-at x) (waveform-at x .places-for .result .«extra_bytes») (waveform-laid x))
+rewrite-extra-requires c κs = let x = c .before .before .before in (ends (waveform-at x), kept (waveform-at x) (waveform-at x .places-for .result .«extra_bytes») (waveform-laid x))
 
 -- a record that ends after the time is all laid there
 returns : tie.Need-returns
@@ -144,7 +148,7 @@ returns-2 c =
     let s = begun p .args .src .now in
     let at = p .places-for .result .«extra_bytes» in
     let rest : take (length s - at) (drop at s) ≡ drop at s = take-all (length s - at) (drop at s) (simp length-drop (omega arith)) in
-    same p (next p at (length s - at) (length s) (omega (arith, follow p .ends)) (omega arith) (waveform-laid x) (e .rewrite-extra .ensures ∙ ap (sets (x .rewrite-waveform .last .1 .1 .1 .0) at) (sym rest)))
+    same p (next p at (length s - at) (length s) (omega (arith, ends p)) (omega arith) (waveform-laid x) (e .rewrite-extra .ensures ∙ ap (sets (x .rewrite-waveform .last .1 .1 .1 .0) at) (sym rest)))
 
 pub rewrite-point-spec : {M : Type 1} → statement M
 rewrite-point-spec =
