@@ -1,5 +1,5 @@
 -- Each place after the source id is where the field before it ends.
-use Prim.Native.Nat.{ℕ, _+_}
+use Prim.Native.Nat.{_+_}
 use mathlib.Core.Path.{_≡_, refl}
 use mathlib.Core.Bool.{cond}
 use Rattle.format.specs.declared.Format.{Format}
