@@ -64,7 +64,7 @@ MiddleFits true s = Unit
 MiddleFits false s =
     (x : ℕ) × (y : ℕ) × (twoOf s ≡ two.Bytes x y) × (toRank (Scaled (toZ w16 (num 2 18 s))) ≡ nearestRank (toZ w16 (num 2 18 s)))
 
--- the source id and what stands after it, from the places of the source
+-- what stands after the time, and then the source id and all after it, from the places of the source
 abbrev pub lastAt : Format → Places → Format → List ℕ → List ℕ
 lastAt a from b s =
     take (cond (a .«has_color») 6 0) (drop (from .color) s) ++ (onlyBytes (b .«has_nir») (bytes 2 0) ++ drop (from .waveform) s)
@@ -205,11 +205,11 @@ middle-fits false p mates s all whole takes =
     (w .0, w .1, goes (p .source) s all whole (p .target) mates (w .0) (w .1) (w .2), rank-exact (p .source) s all whole (p .target) mates (w .0) (w .1) (w .2) (fit-parts point fits .2))
 
 -- the bytes of the middle
-pub new-length : (s : List ℕ) → length (newMiddle s) ≡ 6
+new-length : (s : List ℕ) → length (newMiddle s) ≡ 6
 unfolding newMiddle
 new-length s = refl
 
-pub old-length : (s : List ℕ) → MiddleFits false s → length (oldMiddle s) ≡ 4
+old-length : (s : List ℕ) → MiddleFits false s → length (oldMiddle s) ≡ 4
 unfolding oldMiddle
 old-length s m = rw (m .2)
 
