@@ -14,6 +14,7 @@ use Rattle.format.specs.declared.Format.{Format}
 use Rattle.format.specs.declared.FormatLen.the-variants as len
 use Rattle.format.specs.Fields.{lenOf}
 use Rattle.format.specs.Laws.{record-end, len-is}
+use Rattle.layout.specs.Layout.{placesOf}
 use Rattle.outline.specs.declared.Outline.{Outline}
 use Rattle.cursor.specs.declared.Part.{Part}
 use Rattle.cursor.specs.declared.Cursor.{Cursor}
@@ -26,6 +27,7 @@ use Rattle.rewrite.specs.Rewritten.{backOf}
 use Rattle.rewrite.specs.Asked.{PointPart, PartIs, At}
 use Rattle.rewrite.specs.Whole.{length-part, length-back}
 use Rattle.rewrite.specs.Laws.{point-same}
+use Rattle.rewrite.proofs.Pieces.{all-laid}
 
 -- records of m bytes are left as long as bytes are
 pub some-left : (at left m n : ℕ) → at + left * m ≡ n → at < n → 0 < left
@@ -52,8 +54,20 @@ module _ (f : Format) (m : ℕ) (s : List ℕ) (long : lenOf f ≡ len.Is m) (at
       let e : at + m - at ≡ m = omega arith in
       rw e (length-take-le m (drop at s) (simp length-drop (omega (arith, less-one left m more))))
 
+  -- and as long is its place in the destination
+  pub place-length : (d : List ℕ) → length s ≤ length d → length (take (at + m - at) (drop at d)) ≡ m
+  place-length d room =
+      let e : at + m - at ≡ m = omega arith in
+      rw e (length-take-le m (drop at d) (simp length-drop (omega (arith, less-one left m more))))
+
   pub record-whole : PointPart f record-at
   record-whole = rw record-length long
+
+  -- a record that ends after its time is all laid there
+  pub short-back : Bytes s → m ≡ placesOf f .color → (d : List ℕ) {e : List ℕ} → length d ≡ m → e ≡ sets d 0 (take (placesOf f .color) record-at) → e ≡ pointBack f record-at
+  short-back bytes short d size laid =
+      all-laid record-at d (size ∙ sym record-length) (laid ∙ ap (λ (k : ℕ). sets d 0 (take k record-at)) (sym short ∙ sym record-length))
+      ∙ sym (point-same f record-at record-whole (bytes-take (at + m - at) (drop at s) (bytes-drop at s bytes)))
 
   step : (k : ℕ) → left ≡ suc k → pointsBack f m left (drop at s) ≡ pointBack f record-at ++ pointsBack f m (left - 1) (drop (at + m) s)
   unfolding pointsBack

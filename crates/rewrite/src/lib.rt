@@ -5,6 +5,7 @@ ghost use Prim.Native.Nat.{_+_, _≤_};
 ghost use mathlib.Core.Bool.{cond};
 ghost use lib.ListN.{length, take, drop};
 ghost use lib.Seq.{sets};
+ghost use Rattle.layout.specs.Layout.{placesOf};
 ghost use Rattle.cursor.specs.Cursor.{leftOf};
 ghost use Rattle.rewrite.specs.Rewritten.{backOf, rewrittenOf};
 ghost use Rattle.rewrite.specs.Back.{headerBack, vlrBack, pointBack, pointsBack, partBack};
@@ -118,8 +119,47 @@ fn rewrite_vlr(src: &[u8], extended: bool, dst: &mut [u8])
     vlr_write::write_to(vlr, vlr::data(src, extended), dst);
 }
 
-// One record after the other, each into as many bytes of the destination.
+// One record after the other, each into as many bytes of the destination. Records that end after their time have a loop of their own:
+// in one that knows of colour and waveform too, the compiler has no registers left.
 fn rewrite_points(src: &[u8], format: Format, record_length: usize, count: usize, dst: &mut [u8])
+    requires { ⌜ PointsPart format «record_length» count (now src) × (length (now src) ≤ length (now dst)) ⌝ }
+    ensures { λ _. ⌜ now (dst .exit) ≡ pointsBack format «record_length» count (now (src .entry)) ++ drop (length (now (src .entry))) (now (dst .entry)) ⌝ }
+{
+    if record_length == layout::places_for(format).color {
+        rewrite_short_points(src, format, record_length, count, dst);
+        return;
+    }
+    rewrite_long_points(src, format, record_length, count, dst);
+}
+
+// Records that end after their time.
+fn rewrite_short_points(
+    src: &[u8],
+    format: Format,
+    record_length: usize,
+    count: usize,
+    dst: &mut [u8],
+)
+    requires { ⌜ PointsPart format «record_length» count (now src) × (length (now src) ≤ length (now dst)) × («record_length» ≡ placesOf format .color) ⌝ }
+    ensures { λ _. ⌜ now (dst .exit) ≡ pointsBack format «record_length» count (now (src .entry)) ++ drop (length (now (src .entry))) (now (dst .entry)) ⌝ }
+{
+    let end = count * record_length;
+    let mut at = 0;
+    while at < end {
+        let next = at + record_length;
+        rewrite_front(&src[at..next], format, &mut dst[at..next]);
+        at = next;
+    }
+}
+
+// Records of any format.
+fn rewrite_long_points(
+    src: &[u8],
+    format: Format,
+    record_length: usize,
+    count: usize,
+    dst: &mut [u8],
+)
     requires { ⌜ PointsPart format «record_length» count (now src) × (length (now src) ≤ length (now dst)) ⌝ }
     ensures { λ _. ⌜ now (dst .exit) ≡ pointsBack format «record_length» count (now (src .entry)) ++ drop (length (now (src .entry))) (now (dst .entry)) ⌝ }
 {
@@ -138,18 +178,22 @@ fn rewrite_point(src: &[u8], format: Format, dst: &mut [u8])
     requires { ⌜ PointPart format (now src) × (length (now dst) ≡ length (now src)) ⌝ }
     ensures { λ _. ⌜ now (dst .exit) ≡ pointBack format (now (src .entry)) ⌝ }
 {
+    rewrite_front(src, format, dst);
     let at = layout::places_for(format);
-    let core = at.gps_time;
-    rewrite_core(&src[..core], format.is_extended, &mut dst[..core]);
-    rewrite_time(src, format.has_gps_time, at.gps_time, dst);
-    // many formats have nothing else, and one test says so
-    if src.len() == at.color {
-        return;
-    }
     rewrite_color(src, format.has_color, at.color, dst);
     rewrite_nir(src, format.has_nir, at.nir, dst);
     rewrite_waveform(src, format.has_waveform, at.waveform, dst);
     rewrite_extra(src, at.extra_bytes, dst);
+}
+
+// What stands before the colour: the fields that all formats have, and the time.
+fn rewrite_front(src: &[u8], format: Format, dst: &mut [u8])
+    requires { ⌜ PointPart format (now src) × (length (now dst) ≡ length (now src)) ⌝ }
+    ensures { λ _. ⌜ now (dst .exit) ≡ sets (now (dst .entry)) 0 (take (placesOf format .color) (now (src .entry))) ⌝ }
+{
+    let core = layout::places_for(format).gps_time;
+    rewrite_core(&src[..core], format.is_extended, &mut dst[..core]);
+    rewrite_time(src, format.has_gps_time, core, dst);
 }
 
 // What stands before the time, which is a record of its own: that of a format with nothing else. It is not refused, so the else is

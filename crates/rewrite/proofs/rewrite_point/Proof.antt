@@ -2,41 +2,31 @@
 use Prim.Native.Nat.{ℕ, _+_, _-_, _≤_}
 use mathlib.Core.Path.{_≡_, sym, ap, _∙_}
 use mathlib.Core.Bool.{cond}
-use mathlib.Core.List.{List, _++_}
+use mathlib.Core.List.{List}
 use native.Mathlib.Omega.{arith}
 use borrow.Author.Needs.{needs}
 use lib.ListN.{length, take, drop, length-drop}
-use lib.Seq.{sets, length-take-le, take-all}
-use Rattle.lent.specs.Laws.{whole}
+use lib.Seq.{sets, take-all}
 use Rattle.rewrite.specs.Back.{pointBack}
 use Rattle.rewrite.specs.Laws.{point-same}
+use Rattle.layout.specs.declared.Places.{Places}
 use Rattle.layout.specs.Following.{Following, following}
 use Rattle.rewrite.proofs.Pieces.{extra-within, Laid, laid-length, next-laid, all-laid}
 use Rattle.rewrite.proofs.rewrite_point.Statement.{statement}
 use Rattle.rewrite.proofs.rewrite_point.Tie as tie
 
 module _ (p : tie.After-places-for) where
+  abbrev front : tie.After-rewrite-front
+  front = p .before .before .before
+
   abbrev begun : tie.Start
-  begun = p .before .before .before
+  begun = front .before .before .before .before
 
   follow : Following (begun .args .format) (p .places-for .result)
   follow = following (begun .args .format) (p .places-for .ensures)
 
   ends : p .places-for .result .«extra_bytes» ≤ length (begun .args .src .now)
   ends = extra-within (begun .args .format) (begun .args .src .now) (begun .pre .0) (p .places-for .ensures)
-
-  -- what stands before the time is in the record, and as long in the destination
-  core-ends : p .places-for .result .«gps_time» ≤ length (begun .args .src .now)
-  core-ends = omega (arith, follow .color, follow .nir, follow .waveform, follow .extra, ends)
-
-  core-length : length (take (p .places-for .result .«gps_time») (begun .args .src .now)) ≡ p .places-for .result .«gps_time»
-  core-length = length-take-le (p .places-for .result .«gps_time») (begun .args .src .now) core-ends
-
-  core-room : p .places-for .result .«gps_time» ≤ length (begun .args .dst .now)
-  core-room = omega (arith, core-ends, begun .pre .1)
-
-  core-place : length (take (p .places-for .result .«gps_time») (begun .args .dst .now)) ≡ p .places-for .result .«gps_time»
-  core-place = length-take-le (p .places-for .result .«gps_time») (begun .args .dst .now) core-room
 
   -- so much of the record is laid
   abbrev LaidTo : ℕ → List ℕ → Type 0
@@ -52,40 +42,20 @@ module _ (p : tie.After-places-for) where
   same : {e : List ℕ} → LaidTo (length (begun .args .src .now)) e → e ≡ pointBack (begun .args .format) (begun .args .src .now)
   same l =
       all-laid (begun .args .src .now) (begun .args .dst .now) (begun .pre .1) l
-      ∙ sym (point-same (begun .args .format) (begun .args .src .now) (begun .pre .0) (λ k. omega (arith, p .before .before .shared-slice-known .given k)))
+      ∙ sym (point-same (begun .args .format) (begun .args .src .now) (begun .pre .0) (λ k. omega (arith, front .before .before .before .shared-slice-known .given k)))
 
-rewrite-core-requires : tie.Need-rewrite-core-requires
-rewrite-core-requires c κs = let p = c .before .before in (core-length p ∙ follow p .core, core-place p ∙ sym (core-length p))
-
--- what is laid after each piece: all up to the next one
-module _ (x : tie.After-rewrite-core) where
-  abbrev core-at : tie.After-places-for
-  core-at = x .before .before .before
-
-  core-laid : LaidTo core-at (core-at .places-for .result .«gps_time») (x .rewrite-core .last .1 .1 .0 ++ drop (core-at .places-for .result .«gps_time») (begun core-at .args .dst .now))
-  core-laid =
-      let a = begun core-at .args in
-      let core = core-at .places-for .result .«gps_time» in
-      ap (λ (l : List ℕ). l ++ drop core (a .dst .now)) (x .rewrite-core .ensures)
-      ∙ sym (whole (a .dst .now) (take core (a .src .now)) core (core-length core-at) (core-room core-at))
-
-module _ (x : tie.After-rewrite-time) where
-  abbrev time-at : tie.After-places-for
-  time-at = core-at (x .before .before .before .before)
-
-  time-laid : LaidTo time-at (time-at .places-for .result .color) (x .rewrite-time .last .1 .1 .1 .0)
-  time-laid =
-      let w = follow time-at in
-      next time-at (time-at .places-for .result .«gps_time») (cond (begun time-at .args .format .«has_gps_time») 8 0) (time-at .places-for .result .color) (w .color) (omega (arith, w .nir, w .waveform, w .extra, ends time-at)) (core-laid (x .before .before .before .before)) (x .rewrite-time .ensures)
+  -- what is laid after each piece: all up to the next one
+  front-laid : LaidTo (p .places-for .result .color) (front .rewrite-front .last .1 .1 .0)
+  front-laid = front .rewrite-front .ensures ∙ ap (λ (l : Places). sets (begun .args .dst .now) 0 (take (l .color) (begun .args .src .now))) (sym (p .places-for .ensures))
 
 module _ (x : tie.After-rewrite-color) where
   abbrev color-at : tie.After-places-for
-  color-at = time-at (x .before .before .before .before .before .before)
+  color-at = x .before .before
 
   color-laid : LaidTo color-at (color-at .places-for .result .nir) (x .rewrite-color .last .1 .1 .1 .0)
   color-laid =
       let w = follow color-at in
-      next color-at (color-at .places-for .result .color) (cond (begun color-at .args .format .«has_color») 6 0) (color-at .places-for .result .nir) (w .nir) (omega (arith, w .waveform, w .extra, ends color-at)) (time-laid (x .before .before .before .before .before .before)) (x .rewrite-color .ensures)
+      next color-at (color-at .places-for .result .color) (cond (begun color-at .args .format .«has_color») 6 0) (color-at .places-for .result .nir) (w .nir) (omega (arith, w .waveform, w .extra, ends color-at)) (front-laid color-at) (x .rewrite-color .ensures)
 
 module _ (x : tie.After-rewrite-nir) where
   abbrev nir-at : tie.After-places-for
@@ -105,17 +75,11 @@ module _ (x : tie.After-rewrite-waveform) where
       let w = follow waveform-at in
       next waveform-at (waveform-at .places-for .result .waveform) (cond (begun waveform-at .args .format .«has_waveform») 29 0) (waveform-at .places-for .result .«extra_bytes») (w .extra) (ends waveform-at) (nir-laid (x .before .before .before .before)) (x .rewrite-waveform .ensures)
 
-rewrite-time-requires : tie.Need-rewrite-time-requires
-rewrite-time-requires c κs =
-    let x = c .before .before .before in
-    let w = follow (core-at x) in
-    (omega (arith, w .color, w .nir, w .waveform, w .extra, ends (core-at x)), kept (core-at x) (core-at x .places-for .result .«gps_time») (core-laid x))
-
 rewrite-color-requires : tie.Need-rewrite-color-requires
 rewrite-color-requires c κs =
-    let x = c .before .before .before .before .before in
-    let w = follow (time-at x) in
-    (omega (arith, w .nir, w .waveform, w .extra, ends (time-at x)), kept (time-at x) (time-at x .places-for .result .color) (time-laid x))
+    let p = c .before in
+    let w = follow p in
+    (omega (arith, w .nir, w .waveform, w .extra, ends p), kept p (p .places-for .result .color) (front-laid p))
 
 rewrite-nir-requires : tie.Need-rewrite-nir-requires
 rewrite-nir-requires c κs =
@@ -132,16 +96,8 @@ rewrite-waveform-requires c κs =
 rewrite-extra-requires : tie.Need-rewrite-extra-requires
 rewrite-extra-requires c κs = let x = c .before .before .before in (ends (waveform-at x), kept (waveform-at x) (waveform-at x .places-for .result .«extra_bytes») (waveform-laid x))
 
--- a record that ends after the time is all laid there
 returns : tie.Need-returns
 returns c =
-    let x = c .before .before .before .before in
-    let a = begun (time-at x) .args in
-    let all : time-at x .places-for .result .color ≡ length (a .src .now) = sym (c .if1 .taken) in
-    same (time-at x) (time-laid x ∙ ap (λ (k : ℕ). sets (a .dst .now) 0 (take k (a .src .now))) all)
-
-returns-2 : tie.Need-returns-2
-returns-2 c =
     let e = c .before .before in
     let x = e .before .before .before .before in
     let p = waveform-at x in
@@ -154,5 +110,4 @@ pub rewrite-point-spec : {M : Type 1} → statement M
 rewrite-point-spec =
     tie.close
     (tie.spec
-    (λ c κs. search needs) (λ c. sym (core-length (c .before))) (λ c. core-room (c .before)) (λ c. sym (core-place (c .before .before)))
-    rewrite-core-requires rewrite-time-requires (λ c. search needs) returns rewrite-color-requires rewrite-nir-requires rewrite-waveform-requires rewrite-extra-requires (λ c. search needs) returns-2)
+    (λ c κs. search needs) (λ c κs. search needs) rewrite-color-requires rewrite-nir-requires rewrite-waveform-requires rewrite-extra-requires (λ c. search needs) returns)
