@@ -1,4 +1,5 @@
 pub mod Laid
+pub mod Pieces
+pub mod Records
 pub mod Turn
 pub mod Answer
-pub mod Pieces
