@@ -4,8 +4,8 @@ use mathlib.Core.Path.{_≡_, refl, ap, sym, _∙_}
 use mathlib.Core.Bool.{Bool, true, false, cond, not}
 use mathlib.Core.List.{List, [], _∷_, _++_}
 use native.Mathlib.Omega.{arith}
-use lib.ListN.{length, take, drop, length-drop}
-use lib.Seq.{sets, sets-eq, length-sets, drop-drop, length-take-le}
+use lib.ListN.{length, take, drop}
+use lib.Seq.{sets}
 use Rattle.le.specs.Le.{Bytes}
 use Rattle.lent.specs.Laws.{laid-turn}
 use Rattle.outline.specs.declared.Outline.{Outline}
