@@ -3,8 +3,8 @@
 use super::{
     args::{Opt, Words},
     extra,
-    fields::Row,
-    input,
+    fields::{Choice, Row},
+    input::{self, Input, Name},
     output::Output,
     progress::Progress,
     Command, Failure, Status,
@@ -42,10 +42,13 @@ pub(crate) const COMMAND: Command = Command {
 The first line names the fields, and each point has a line. Coordinates are scaled by the header and exact: they have as
 many decimals as the header's scale and offset. A field that the file's points do not have is left empty.
 
-Fields: x, y, z, intensity, return_number, number_of_returns, scan_direction (1: left to right), edge_of_flight_line,
-classification, synthetic, key_point, withheld, overlap, scanner_channel, scan_angle (degrees), user_data,
-point_source_id, gps_time, red, green, blue, nir, wave_index, wave_offset, wave_size, wave_location, wave_x_t, wave_y_t,
-wave_z_t, extra (the extra bytes in hexadecimal), and the extra bytes by the names that the file gives them.
+Numbers of one field have one form: as many decimals as its scale and offset have, or for floats the shortest decimal
+that reads back.
+
+Fields, in letters of either size:
+{fields}
+and the extra bytes by the names that the file gives them; a name that is there already gets a number at its end, as in
+intensity_2.
 
 In formats 0 to 5 overlap is read from the class: 12, or 28, which the standard does not count.
 
@@ -60,26 +63,50 @@ Examples:
 const GATHERED: usize = 1 << 16;
 
 fn run(words: &Words, out: &mut Output) -> Result<Status, Failure> {
-    input::each(&words.files, out, |name, file, out| {
-        write(words, name, file, out)
-    })
+    let asked = Asked::new(words)?;
+    let name = match words.files.first() {
+        Some(name) => name,
+        None => return Ok(Status::Done),
+    };
+    let shown = Name::new(name);
+    let input = match Input::open(name) {
+        Ok(input) => input,
+        Err(error) => return out.failed(&shown, &input::words(&error)),
+    };
+    match File::check(input.bytes()) {
+        Ok(file) => write(&asked, &shown, &file, out),
+        Err(refusal) => out.refused(&shown, &refusal),
+    }
 }
 
-fn write(words: &Words, name: &str, file: &File<'_>, out: &mut Output) -> Result<Status, Failure> {
-    let choice = words.value("fields").map(|fields| fields.to_string_lossy());
-    let header = file.header();
-    let format = file.format();
-    let row = Row::new(
-        choice.as_deref(),
-        words.has("raw"),
-        header,
-        &format,
-        &extra::of(file),
-    );
-    let row = row.map_err(Failure::Usage)?;
-    let skipped = words.number("skip")?.unwrap_or(0);
-    let limit = words.number("limit")?.unwrap_or(u64::MAX);
-    let total = file.point_count().saturating_sub(skipped).min(limit);
+/// What was asked for, which is looked through before the file is.
+struct Asked {
+    choice: Choice,
+    raw: bool,
+    skip: u64,
+    limit: u64,
+}
+
+impl Asked {
+    fn new(words: &Words) -> Result<Asked, Failure> {
+        let fields = words.value("fields").map(|fields| fields.to_string_lossy());
+        Ok(Asked {
+            choice: Choice::new(fields.as_deref()).map_err(Failure::Usage)?,
+            raw: words.has("raw"),
+            skip: words.number("skip")?.unwrap_or(0),
+            limit: words.number("limit")?.unwrap_or(u64::MAX),
+        })
+    }
+}
+
+fn write(asked: &Asked, name: &Name, file: &File<'_>, out: &mut Output) -> Result<Status, Failure> {
+    let (header, format) = (file.header(), file.format());
+    let row = Row::new(&asked.choice, asked.raw, header, &format, &extra::of(file));
+    let mut row = row.map_err(Failure::Usage)?;
+    let total = file
+        .point_count()
+        .saturating_sub(asked.skip)
+        .min(asked.limit);
 
     if !out.json {
         out.line(&row.heading())?;
@@ -87,7 +114,7 @@ fn write(words: &Words, name: &str, file: &File<'_>, out: &mut Output) -> Result
     let progress = Progress::of_output(format!("points of {name}"), total);
     let mut points = file
         .points()
-        .skip(usize::try_from(skipped).unwrap_or(usize::MAX));
+        .skip(usize::try_from(asked.skip).unwrap_or(usize::MAX));
     let mut lines = Vec::new();
     for done in 0..total {
         let point = match points.next() {

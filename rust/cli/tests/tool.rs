@@ -1,14 +1,15 @@
 //! The tool, run as its users run it.
 
+#[path = "../../tests/common/mod.rs"]
 mod common;
 
 use common::{plain, rich, sample, two_points, Folder, TWO_POINTS};
-use inscjarol::{Header, LargeFile, Version};
+use inscjarol::{Format, Header, LargeFile, Point, Version, Vlr};
 use std::{
     fs::{self, File},
     io::{BufRead, BufReader, Read, Write},
-    os::unix::fs::{symlink, PermissionsExt},
-    path::Path,
+    os::unix::fs::{symlink, MetadataExt, PermissionsExt},
+    path::{Path, PathBuf},
     process::{Command, Output, Stdio},
     time::{Duration, Instant},
 };
@@ -189,12 +190,52 @@ fn the_standard_input() {
         (output.stdout.as_slice(), output.status.code()),
         (TWO_POINTS.as_bytes(), Some(0))
     );
-    let output = tool()
-        .args(["check", "-"])
-        .stdin(Stdio::null())
-        .output()
+}
+
+/// What the tool says of this on its standard input.
+fn fed(words: &[&str], bytes: &[u8]) -> (String, String, Option<i32>) {
+    let mut child = tool()
+        .args(words)
+        .stdin(Stdio::piped())
+        .stdout(Stdio::piped())
+        .stderr(Stdio::piped())
+        .spawn()
         .unwrap();
-    assert!(told(&output).0.starts_with("standard input: refused 1 4 0"));
+    // Whoever does not read on closes the pipe.
+    let _ = child.stdin.take().unwrap().write_all(bytes);
+    told(&child.wait_with_output().unwrap())
+}
+
+#[test]
+fn a_standard_input_without_end() {
+    // A device, whatever it is called.
+    for device in ["/dev/zero", "/dev/null"] {
+        let device = File::open(device).unwrap();
+        let output = tool().args(["check", "-"]).stdin(device).output().unwrap();
+        let (_, err, status) = told(&output);
+        assert!(err.contains("standard input: it is a device, not a file"));
+        assert_eq!(status, Some(2));
+    }
+    // What does not begin like a LAS file is not read on.
+    let (out, _, status) = fed(&["check", "-"], &vec![0; 50_000_000]);
+    assert!(out.starts_with("standard input: refused 2 0 0 (signature)"));
+    assert_eq!(status, Some(1));
+    assert!(fed(&["check", "-"], b"").0.contains("refused 1 4 0"));
+    // What does is read as long as there is memory.
+    let whole = fs::read(sample()).unwrap();
+    let folder = Folder::new("endless");
+    let script = format!(
+        "ulimit -v 300000; cat {} /dev/zero | {} check -",
+        folder.put("in.las", &whole).display(),
+        env!("CARGO_BIN_EXE_inscjarol")
+    );
+    let output = Command::new("sh").args(["-c", &script]).output().unwrap();
+    let (_, err, status) = told(&output);
+    assert!(
+        err.contains("it is longer than there is memory for"),
+        "{err}"
+    );
+    assert_eq!(status, Some(2));
 }
 
 #[test]
@@ -218,9 +259,14 @@ fn the_standard_input_from_a_file() {
 #[test]
 fn what_cannot_be_read() {
     let folder = Folder::new("unreadable");
+    for command in ["points", "rewrite"] {
+        let words = [Path::new(command), &folder.join("."), &folder.join("out")];
+        let output = run(&words[..if command == "points" { 2 } else { 3 }]);
+        assert!(told(&output).1.contains("it is a folder, not a file"));
+        assert_eq!(output.status.code(), Some(2));
+    }
     for (path, words) in [
         (folder.join("missing.las"), "there is no such file"),
-        (folder.join("."), "it is a folder, not a file"),
         ("/dev/zero".into(), "it is a device, not a file"),
     ] {
         for command in ["check", "parts", "info", "points"] {
@@ -315,7 +361,10 @@ fn points_as_csv() {
         all[0],
         "x,y,z,intensity,return_number,number_of_returns,classification,gps_time"
     );
-    assert_eq!(all[1], "500000.128,5400000.021,112.039,25823,1,1,2,4321060");
+    assert_eq!(
+        all[1],
+        "500000.128,5400000.021,112.039,25823,1,1,2,4321060.0"
+    );
     assert_eq!(lines(&["--limit", "2"]), all[..3]);
     assert_eq!(lines(&["--skip=10", "--limit=1"])[1], all[11]);
     assert_eq!(lines(&["--skip", "5000"]), all[..1]);
@@ -401,11 +450,7 @@ fn rewriting() {
     fs::set_permissions(&to, fs::Permissions::from_mode(0o640)).unwrap();
     let link = folder.join("link.las");
     symlink(&to, &link).unwrap();
-    let (_, err, status) = told(&run(&[
-        "rewrite".as_ref(),
-        to.as_os_str(),
-        link.as_os_str(),
-    ]));
+    let (_, err, status) = told(&rewrite(&to, &link, &[]));
     assert_eq!((err.as_str(), status), ("", Some(0)));
     assert!(fs::symlink_metadata(&link)
         .unwrap()
@@ -446,11 +491,7 @@ fn rewriting_that_fails_leaves_everything() {
     fs::create_dir(folder.join("folder")).unwrap();
     let before = folder.names();
     let rewrite = |from: &Path, to: &Path| {
-        let (out, err, status) = told(&run(&[
-            "rewrite".as_ref(),
-            from.as_os_str(),
-            to.as_os_str(),
-        ]));
+        let (out, err, status) = told(&rewrite(from, to, &["--force"]));
         assert_eq!((out.as_str(), folder.names()), ("", before.clone()));
         (err, status)
     };
@@ -520,40 +561,449 @@ fn a_huge_file() {
     );
 }
 
+/// Runs `rewrite`.
+fn rewrite(from: &Path, to: &Path, options: &[&str]) -> Output {
+    let mut tool = tool();
+    tool.arg("rewrite").args(options).args([from, to]);
+    tool.output().unwrap()
+}
+
 #[test]
-fn an_interrupted_rewriting_leaves_nothing() {
-    // 400 MB, so that the signal comes while it writes.
-    let folder = Folder::new("interrupted");
-    let from = folder.join("in.las");
+fn what_is_there_is_not_replaced_without_a_word() {
+    let folder = Folder::new("there");
+    let one = folder.put("one.las", &plain(1));
+    let two = folder.put("two.las", &plain(2));
+    let (out, err, status) = told(&rewrite(&one, &two, &[]));
+    assert_eq!((out.as_str(), status), ("", Some(2)));
+    assert!(err.contains("two.las: it is there already; with --force it is replaced"));
+    assert_eq!(fs::read(&two).unwrap(), plain(2));
+    let (out, _, _) = told(&rewrite(&one, &two, &["--json"]));
+    assert!(out.contains("\"error\":\"it is there already"));
+
+    // Itself, by whatever name, and from the standard input.
+    let again = folder.join("again.las");
+    fs::hard_link(&one, &again).unwrap();
+    assert_eq!(rewrite(&one, &again, &[]).status.code(), Some(0));
+    let from_input = tool()
+        .args([Path::new("rewrite"), Path::new("-"), &one])
+        .stdin(File::open(&one).unwrap())
+        .output()
+        .unwrap();
+    assert_eq!(told(&from_input).2, Some(0));
+
+    // By force, with its mode; but not what is read-only, even by who may write everything.
+    fs::set_permissions(&two, fs::Permissions::from_mode(0o640)).unwrap();
+    assert_eq!(rewrite(&one, &two, &["--force"]).status.code(), Some(0));
+    assert_eq!(fs::read(&two).unwrap(), plain(1));
+    assert_eq!(mode(&two), 0o640);
+    fs::set_permissions(&two, fs::Permissions::from_mode(0o444)).unwrap();
+    let (_, err, status) = told(&rewrite(&two, &two, &["--force"]));
+    assert!(err.contains("two.las: it is read-only") && status == Some(2));
+    assert_eq!(mode(&two), 0o444);
+    assert_eq!(folder.names(), ["again.las", "one.las", "two.las"]);
+}
+
+fn mode(path: &Path) -> u32 {
+    fs::metadata(path).unwrap().permissions().mode() & 0o7777
+}
+
+#[test]
+fn a_link_is_followed() {
+    let folder = Folder::new("links");
+    let one = folder.put("one.las", &plain(1));
+    fs::create_dir(folder.join("kept")).unwrap();
+    let links = [folder.join("link.las"), folder.join("kept/link.las")];
+    symlink("kept/link.las", &links[0]).unwrap();
+    symlink("../target.las", &links[1]).unwrap();
+    // It leads to nothing yet.
+    let (_, err, status) = told(&rewrite(&one, &links[0], &[]));
+    assert_eq!((err.as_str(), status), ("", Some(0)));
+    assert_eq!(fs::read(folder.join("target.las")).unwrap(), plain(1));
+    // And now to a file that is there.
+    assert_eq!(rewrite(&one, &links[0], &[]).status.code(), Some(2));
+    let two = folder.put("two.las", &plain(2));
+    assert_eq!(
+        rewrite(&two, &links[0], &["--force"]).status.code(),
+        Some(0)
+    );
+    assert_eq!(fs::read(folder.join("target.las")).unwrap(), plain(2));
+    for link in &links {
+        assert!(fs::symlink_metadata(link).unwrap().file_type().is_symlink());
+    }
+    // In a circle.
+    symlink("b.las", folder.join("a.las")).unwrap();
+    symlink("a.las", folder.join("b.las")).unwrap();
+    let (_, err, status) = told(&rewrite(&one, &folder.join("a.las"), &[]));
+    assert!(err.contains("its links go in a circle") && status == Some(2));
+}
+
+#[test]
+fn the_owner_is_kept() {
+    let folder = Folder::new("owner");
+    let one = folder.put("one.las", &plain(1));
+    let two = folder.put("two.las", &plain(2));
+    // Who may give files away is asked to keep them where they are.
+    if std::os::unix::fs::chown(&two, Some(12_345), Some(23_456)).is_err() {
+        return;
+    }
+    fs::set_permissions(&two, fs::Permissions::from_mode(0o2660)).unwrap();
+    for named in [false, true] {
+        let mut tool = tool();
+        tool.args(["rewrite", "--force"]).args([&one, &two]);
+        if named {
+            tool.env(NAMED, "1");
+        }
+        assert_eq!(told(&tool.output().unwrap()).2, Some(0));
+        let about = fs::metadata(&two).unwrap();
+        assert_eq!((about.uid(), about.gid()), (12_345, 23_456));
+        assert_eq!(mode(&two), 0o2660);
+    }
+}
+
+/// What makes the tool name its temporary file, as it does where there are no unnamed ones.
+const NAMED: &str = "INSCJAROL_NAMED_TEMPORARY";
+
+#[test]
+fn a_name_as_long_as_names_may_be() {
+    let folder = Folder::new("long");
+    let one = folder.put("one.las", &plain(1));
+    let long = folder.join(&"l".repeat(255));
+    for options in [&[][..], &["--force"]] {
+        for named in [false, true] {
+            let mut tool = tool();
+            tool.arg("rewrite").args(options).args([&one, &long]);
+            if named {
+                tool.env(NAMED, "1");
+            }
+            assert_eq!(told(&tool.output().unwrap()).1, "");
+            assert_eq!(fs::read(&long).unwrap(), plain(1));
+            if options.is_empty() {
+                fs::remove_file(&long).unwrap();
+            } else {
+                assert_eq!(folder.names().len(), 2);
+            }
+        }
+        fs::write(&long, b"what there was").unwrap();
+    }
+}
+
+/// A file of 400 MB, so that a signal comes while it is written.
+fn large(folder: &Folder) -> PathBuf {
+    let path = folder.join("in.las");
     let mut header = Header::new(Version { major: 1, minor: 2 }).unwrap();
     header.number_of_point_records = 20_000_000;
-    let mut file = File::create(&from).unwrap();
+    let mut file = File::create(&path).unwrap();
     file.write_all(&header.to_vec(&[]).unwrap()).unwrap();
     file.set_len(227 + 20 * 20_000_000).unwrap();
+    path
+}
+
+/// Whether a process has its temporary file open.
+fn writes(process: u32, folder: &Folder) -> bool {
+    let open = match fs::read_dir(format!("/proc/{process}/fd")) {
+        Ok(open) => open,
+        Err(_) => return false,
+    };
+    open.flatten()
+        .filter_map(|entry| fs::read_link(entry.path()).ok())
+        .any(|to| to.starts_with(folder.join("")) && to != folder.join("in.las"))
+}
+
+#[test]
+fn an_interrupted_rewriting_leaves_nothing() {
+    let folder = Folder::new("interrupted");
+    let from = large(&folder);
     let old = folder.put("out.las", b"what there was");
-    let mut child = tool()
-        .args(["rewrite".as_ref(), from.as_os_str(), old.as_os_str()])
-        .stdout(Stdio::null())
-        .spawn()
-        .unwrap();
-    // The temporary file appears, and then the tool is asked to end.
-    let begun = Instant::now();
-    while folder.names().len() < 3 && begun.elapsed() < Duration::from_secs(20) {
-        if child.try_wait().unwrap().is_some() {
-            break;
+    let mut in_time = 0;
+    for (signal, named) in [
+        ("TERM", false),
+        ("QUIT", false),
+        ("KILL", false),
+        ("USR1", false),
+        ("INT", true),
+        ("QUIT", true),
+        ("XCPU", true),
+        ("ALRM", true),
+        ("USR1", true),
+        ("RTMAX", true),
+    ] {
+        let mut tool = tool();
+        tool.args(["rewrite", "--force"])
+            .args([&from, &old])
+            .stdout(Stdio::null());
+        if named {
+            tool.env(NAMED, "1");
         }
-        std::thread::sleep(Duration::from_millis(1));
+        let mut child = tool.spawn().unwrap();
+        // The temporary file appears, and then the tool is made to end.
+        let begun = Instant::now();
+        while !writes(child.id(), &folder) && begun.elapsed() < Duration::from_secs(20) {
+            if child.try_wait().unwrap().is_some() {
+                break;
+            }
+            std::thread::sleep(Duration::from_millis(1));
+        }
+        let killed = Command::new("bash")
+            .args(["-c", &format!("kill -{signal} {}", child.id())])
+            .status()
+            .unwrap();
+        let status = child.wait().unwrap();
+        assert_eq!(folder.names(), ["in.las", "out.las"], "{signal}");
+        // Where the signal came in time, OUT is what there was.
+        if killed.success() && status.code().is_none() {
+            assert_eq!(fs::read(&old).unwrap(), b"what there was");
+            in_time += 1;
+        }
+        fs::write(&old, b"what there was").unwrap();
     }
-    let killed = Command::new("kill")
-        .args(["-TERM", &child.id().to_string()])
-        .status()
-        .unwrap();
-    let status = child.wait().unwrap();
-    assert_eq!(folder.names(), ["in.las", "out.las"]);
-    // Where the signal came in time, OUT is what there was.
-    if killed.success() && status.code().is_none() {
-        assert_eq!(fs::read(&old).unwrap(), b"what there was");
+    assert!(in_time > 3, "{in_time}");
+}
+
+#[test]
+fn a_file_that_may_not_become_so_long() {
+    let folder = Folder::new("limited");
+    let from = large(&folder);
+    let script = format!(
+        "ulimit -f 1000; {} rewrite {} {}",
+        env!("CARGO_BIN_EXE_inscjarol"),
+        from.display(),
+        folder.join("out.las").display()
+    );
+    let output = Command::new("bash").args(["-c", &script]).output().unwrap();
+    let (_, err, status) = told(&output);
+    assert!(err.contains("out.las: File too large"), "{err}");
+    assert_eq!(status, Some(2));
+    assert_eq!(folder.names(), ["in.las"]);
+}
+
+#[test]
+fn nothing_steers_the_terminal() {
+    let folder = Folder::new("steering");
+    let name = "a\x1b[31m\n\u{9b}b.las";
+    let path = folder.put(name, &plain(1)[..246]);
+    let good = folder.put(
+        "\x1b]0;good.las",
+        &described(&[("\x1b[2J", 1, 0, 0.0)], &[7]),
+    );
+    let steers = |c: char| c.is_control() && c != '\n';
+    for words in [
+        &["check"][..],
+        &["parts"],
+        &["info"],
+        &["points"],
+        &["points", "--fields", "all"],
+        &["points", "--fields", "nothing"],
+        &["points", "--fields", "\x1b[2J,x\x1b"],
+        &["rewrite", "--force"],
+        &["check", "--json"],
+        &["points", "--json", "--fields", "all"],
+    ] {
+        for path in [&path, &good, &folder.join("\x1bmissing")] {
+            let mut tool = tool();
+            tool.args(words).arg(path);
+            if words[0] == "rewrite" {
+                tool.arg(folder.join("out\x1b.las"));
+            }
+            let output = tool.output().unwrap();
+            let (out, err, _) = told(&output);
+            assert!(!out.contains(steers), "{words:?} {out:?}");
+            assert!(!err.contains(steers), "{words:?} {err:?}");
+        }
     }
+    let (_, err, _) = told(&run(&["\x1b[31mcheck"]));
+    assert!(!err.contains(steers));
+    // For programs the name is what it is.
+    let (out, _, _) = on(&["check", "--json"], &path);
+    assert!(out.contains("a\\u001b[31m\\n\\u009bb.las"), "{out}");
+}
+
+/// A file of LAS 1.4 whose points have these extra bytes, each described by name, data type, options and scale.
+fn described(fields: &[(&str, u8, u8, f64)], extra_bytes: &[u8]) -> Vec<u8> {
+    let mut data = Vec::new();
+    for (name, data_type, options, scale) in fields {
+        let mut description = [0; 192];
+        description[2] = *data_type;
+        description[3] = *options;
+        description[4..4 + name.len()].copy_from_slice(name.as_bytes());
+        description[112..120].copy_from_slice(&scale.to_le_bytes());
+        data.extend(description);
+    }
+    let vlr = Vlr::new(false, "LASF_Spec", 4, "", &data).to_vec().unwrap();
+    let format = Format::default().with_extra_bytes(extra_bytes.len() as u16);
+    let mut header = Header::new(Version { major: 1, minor: 4 }).unwrap();
+    header.offset_to_point_data += vlr.len() as u32;
+    header.number_of_variable_length_records = 1;
+    header.point_data_record_length = format.len().unwrap();
+    header.number_of_point_records = 1;
+    let point = Point {
+        intensity: 77,
+        extra_bytes,
+        ..Point::default()
+    };
+    let mut bytes = header.to_vec(&[]).unwrap();
+    bytes.extend(vlr);
+    bytes.extend(point.to_vec(format).unwrap());
+    bytes
+}
+
+#[test]
+fn numbers_of_extra_bytes() {
+    let folder = Folder::new("extra");
+    let mut extra_bytes = 0.1_f32.to_le_bytes().to_vec();
+    extra_bytes.extend(1e300_f64.to_le_bytes());
+    extra_bytes.extend(u32::MAX.to_le_bytes());
+    extra_bytes.extend(8_u32.to_le_bytes());
+    let fields = [
+        ("single", 9, 0, 0.0),
+        ("double", 10, 0, 0.0),
+        ("much", 5, 8, 0.125),
+        ("little", 5, 8, 0.125),
+    ];
+    let path = folder.put("extra.las", &described(&fields, &extra_bytes));
+    let (out, _, _) = on(&["points", "--fields", "single,double,much,little"], &path);
+    assert_eq!(
+        out,
+        "single,double,much,little\n0.1,1e300,536870911.875,1.000\n"
+    );
+    let (out, _, _) = on(&["points", "--json", "--fields", "single,double"], &path);
+    assert_eq!(out, "{\"single\":0.1,\"double\":1e300}\n");
+    let (out, _, _) = on(&["info"], &path);
+    assert!(out.contains("much (u32, steps of 0.125)"));
+}
+
+#[test]
+fn no_key_is_there_twice() {
+    let folder = Folder::new("twice");
+    let fields = [("intensity", 1, 0, 0.0), ("a", 1, 0, 0.0), ("a", 1, 0, 0.0)];
+    let path = folder.put("twice.las", &described(&fields, &[1, 2, 3]));
+    let (out, _, status) = on(&["points", "--json", "--fields", "all"], &path);
+    assert_eq!((objects(&out), status), (1, Some(0)));
+    assert!(out.contains("\"intensity\":77,"), "{out}");
+    assert!(
+        out.ends_with("\"intensity_2\":1,\"a\":2,\"a_2\":3}\n"),
+        "{out}"
+    );
+    let (out, _, _) = on(&["points", "--fields", "a_2,intensity_2"], &path);
+    assert_eq!(out, "a_2,intensity_2\n3,1\n");
+    let (_, err, status) = on(
+        &["points", "--json", "--fields", "class,Classification"],
+        &path,
+    );
+    assert!(err.contains("--fields names classification twice"));
+    assert_eq!(status, Some(2));
+}
+
+#[test]
+fn fields_by_other_names() {
+    let (out, _, _) = on(
+        &["points", "--limit", "1", "--fields", "X,Y,Z,class"],
+        &sample(),
+    );
+    assert_eq!(
+        out,
+        "x,y,z,classification\n500000.128,5400000.021,112.039,2\n"
+    );
+    let (_, err, status) = on(&["points", "--fields", "x,intesity"], &sample());
+    assert!(err.contains("there is no field 'intesity'; did you mean intensity?"));
+    assert_eq!(status, Some(2));
+    let (_, err, _) = on(&["points", "--fields", "reflectence"], &sample());
+    assert!(err.contains("did you mean reflectance?"));
+}
+
+#[test]
+fn wrong_use_is_told_before_a_file_is_opened() {
+    let missing = Path::new("/nowhere/missing.las");
+    for (options, words) in [
+        (&["--limit", "many"][..], "--limit needs a number"),
+        (&["--skip", "-1"], "--skip needs a number"),
+        (&["--fields", "x,,y"], "has an empty one"),
+        (&["--fields", "x,x"], "--fields names x twice"),
+        (&["--jsn"], "did you mean --json?"),
+    ] {
+        let (out, err, status) = on(&[&["points"], options].concat(), missing);
+        assert!(
+            err.contains(words) && !err.contains("no such file"),
+            "{err}"
+        );
+        assert_eq!((out.as_str(), status), ("", Some(2)));
+    }
+}
+
+#[test]
+fn json_before_the_command() {
+    let before = on(&["--json", "check"], &sample());
+    assert_eq!(before, on(&["check", "--json"], &sample()));
+    assert_eq!(objects(&before.0), 1);
+    let (_, err, status) = told(&run(&["--limit", "5"]));
+    assert!(err.contains("there is no option '--limit' before the command"));
+    assert_eq!(status, Some(2));
+}
+
+#[test]
+fn what_was_meant() {
+    let (_, err, status) = told(&run(&["chek", "a.las"]));
+    assert!(
+        err.contains("there is no command 'chek'; did you mean check?"),
+        "{err}"
+    );
+    assert_eq!(status, Some(2));
+    let (_, err, _) = told(&run(&["help", "pionts"]));
+    assert!(err.contains("did you mean points?"));
+    let (_, err, _) = told(&run(&[sample()]));
+    assert!(
+        err.contains("a command comes first, as in 'inscjarol check "),
+        "{err}"
+    );
+}
+
+#[test]
+fn folders() {
+    let folder = Folder::new("folders");
+    for (name, bytes) in [
+        ("b.las", &plain(1)[..]),
+        ("a.LAS", &plain(2)),
+        ("c.las", &plain(3)[..250]),
+        ("readme.txt", b"text"),
+        ("d.laz", b"LASF"),
+    ] {
+        folder.put(name, bytes);
+    }
+    fs::create_dir(folder.join("more.las")).unwrap();
+    let all = folder.join("");
+    let (out, err, status) = on(&["check"], &all);
+    let names: Vec<&str> = out
+        .lines()
+        .filter_map(|line| line.split(": ").next()?.rsplit('/').next())
+        .collect();
+    assert_eq!(names, ["a.LAS", "b.las", "c.las", "3 files"]);
+    assert!(
+        out.ends_with("3 files: 2 accepted, 1 refused; 3 other files there are no .las files\n"),
+        "{out}"
+    );
+    assert_eq!((err.as_str(), status), ("", Some(1)));
+    let (out, err, _) = on(&["check", "--json"], &all);
+    assert_eq!(objects(&out), 3);
+    assert!(err.contains("3 other files there are no .las files"));
+    for command in ["parts", "info"] {
+        let (out, err, status) = on(&[command], &all);
+        assert!(out.contains("a.LAS") && out.contains("b.las"));
+        assert!(err.contains("3 other files") && err.contains("c.las: refused 12 3 0"));
+        assert_eq!(status, Some(1));
+    }
+    let (_, err, status) = on(&["check"], &folder.join("more.las"));
+    assert!(err.contains("there is no .las file in this folder"));
+    assert_eq!(status, Some(2));
+}
+
+#[test]
+fn info_of_several_files() {
+    let folder = Folder::new("headings");
+    let one = folder.put("one.las", &plain(1));
+    let two = folder.put("two.las", &plain(2));
+    let (out, _, _) = told(&tool().arg("info").args([&one, &two]).output().unwrap());
+    let headings: Vec<&str> = out.lines().filter(|line| !line.starts_with(' ')).collect();
+    let (one, two) = (one.display().to_string(), two.display().to_string());
+    assert_eq!(headings, [one.as_str(), "", &two]);
 }
 
 #[test]
@@ -645,6 +1095,9 @@ fn help() {
         assert!(taught.contains(&format!("Usage: inscjarol {command}")));
     }
     assert_eq!(told(&run(&["help", "me"])).2, Some(2));
+    let (out, err, status) = told(&run(&["help", "help"]));
+    assert!(out.contains("Usage: inscjarol help [COMMAND]"));
+    assert_eq!((err.as_str(), status), ("", Some(0)));
     assert_eq!(
         told(&run(&["--version"])).0,
         concat!("inscjarol ", env!("CARGO_PKG_VERSION"), "\n")
