@@ -544,12 +544,16 @@ fn found<'a>(name: &str, extras: &'a [(String, &'a Extra)]) -> Option<Found<'a>>
 fn unknown(name: &str, extras: &[(String, &Extra)]) -> String {
     let standard: Vec<&str> = names().collect();
     let described: Vec<&str> = extras.iter().map(|(name, _)| name.as_str()).collect();
-    let meant = near::meant(name, standard.iter().chain(&described).copied());
-    let after = if meant.is_empty() { ";" } else { "" };
-    let mut words = format!(
-        "there is no field '{name}'{meant}{after} there are {}",
-        standard.join(", ")
-    );
+    let others = FIELDS.iter().flat_map(|Standard(_, others, ..)| *others);
+    let all = standard.iter().chain(&described).chain(others);
+    let mut words = format!("there is no field '{name}'");
+    if let Some(near) = near::nearest(name, all.copied()) {
+        words.push_str(&format!(
+            "; did you mean {near}? 'inscjarol help points' tells all fields"
+        ));
+        return words;
+    }
+    words.push_str(&format!("; there are {}", standard.join(", ")));
     if !described.is_empty() {
         words.push_str(&format!("; and in this file {}", described.join(", ")));
     }
@@ -631,9 +635,7 @@ mod tests {
         assert!(all.contains("scanner_channel,scan_angle,user_data") && all.ends_with("wave_z_t"));
         assert!(!heading(Some("all"), 1).unwrap().contains("scanner_channel"));
         let refused = |choice| heading(Some(choice), 1).unwrap_err();
-        assert!(
-            refused("x,intesity").contains("no field 'intesity'; did you mean intensity? there")
-        );
+        assert!(refused("x,intesity").contains("no field 'intesity'; did you mean intensity?"));
         assert!(refused("x,something").contains("no field 'something'; there are x, y"));
         assert_eq!(refused("x,y,x"), "--fields names x twice");
         assert_eq!(refused("x,X"), "--fields names x twice");

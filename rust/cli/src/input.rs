@@ -165,7 +165,7 @@ pub(crate) struct Files {
     files: Vec<(OsString, Option<String>)>,
     /// Whether there were folders.
     folders: bool,
-    /// How many files in them have another name than LAS files have.
+    /// How much else there is in them.
     others: u64,
 }
 
@@ -222,9 +222,12 @@ impl Files {
 
     /// What was left out of the folders, if anything was.
     pub(crate) fn left_out(&self) -> Option<String> {
-        let others = counted(self.others, "other file");
-        let are = if self.others == 1 { "is" } else { "are" };
-        (self.others > 0).then(|| format!("{others} there {are} no .las files"))
+        let others = counted(self.others, "other");
+        match self.others {
+            0 => None,
+            1 => Some(format!("{others} there is no .las file")),
+            _ => Some(format!("{others} there are no .las files")),
+        }
     }
 
     /// How many files there are.

@@ -185,6 +185,7 @@ fn help(name: Option<OsString>, out: &mut Output) -> Result<Status, Failure> {
         Some(name) => match name.to_string_lossy().as_ref() {
             "help" => String::from(HELP),
             "json" => documented::text(),
+            "version" => String::from("inscjarol version: say which version of the tool this is"),
             name => taught(command(name).ok_or_else(|| unknown(name))?),
         },
     };
@@ -207,24 +208,26 @@ Examples:
 
 /// That there is no such command, and what could be meant.
 fn unknown(name: &str) -> Failure {
-    let names: Vec<&str> = COMMANDS.iter().map(|command| command.name).collect();
-    let mut words = match name.starts_with('-') && name != "-" {
-        true => format!("there is no option '{name}' before the command"),
-        false => format!("there is no command '{name}'"),
-    };
-    if name == "-" || Path::new(name).exists() {
-        words.push_str(&format!(
-            "; a command comes first, as in 'inscjarol check {name}'"
-        ));
-    } else {
-        words.push_str(&near::meant(
-            name.trim_start_matches('-'),
-            names.iter().copied().chain(["help", "version"]),
+    let mut names: Vec<&str> = COMMANDS.iter().map(|command| command.name).collect();
+    names.push("help");
+    names.push("version");
+    if let Some(option) = name.strip_prefix('-').filter(|option| !option.is_empty()) {
+        let option = option.trim_start_matches('-');
+        let meant = near::nearest(option, ["json", "help", "version"]);
+        let meant = meant.map_or_else(String::new, |near| format!("; did you mean --{near}?"));
+        return Failure::Usage(format!(
+            "there is no option '{name}' before the command{meant}"
         ));
     }
-    let after = if words.ends_with('?') { "" } else { ";" };
+    let meant = match near::nearest(name, names.iter().copied()) {
+        _ if name == "-" || Path::new(name).exists() => {
+            format!("; a command comes first, as in 'inscjarol check {name}'")
+        }
+        Some(near) => format!("; did you mean {near}?"),
+        None => String::new(),
+    };
     Failure::Usage(format!(
-        "{words}{after} there are {} and help",
+        "there is no command '{name}' (there are {}){meant}",
         names.join(", ")
     ))
 }

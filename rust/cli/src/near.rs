@@ -13,11 +13,6 @@ pub(crate) fn nearest<'w>(word: &str, among: impl IntoIterator<Item = &'w str>) 
         .map(|(_, other)| other)
 }
 
-/// `; did you mean check?`, or nothing.
-pub(crate) fn meant<'w>(word: &str, among: impl IntoIterator<Item = &'w str>) -> String {
-    nearest(word, among).map_or_else(String::new, |near| format!("; did you mean {near}?"))
-}
-
 /// How many letters have to be put in, left out, replaced or swapped with the next to make one word of the other.
 fn distance(word: &str, other: &str) -> usize {
     let other: Vec<char> = other.chars().collect();
@@ -68,7 +63,6 @@ mod tests {
         assert_eq!(nearest("Point", words), Some("points"));
         assert_eq!(nearest("rewirte", words), Some("rewrite"));
         assert_eq!(nearest("delete", words), None);
-        assert_eq!(meant("inof", words), "; did you mean info?");
-        assert_eq!(meant("something", words), "");
+        assert_eq!(nearest("inof", words), Some("info"));
     }
 }

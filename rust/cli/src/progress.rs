@@ -106,17 +106,32 @@ fn line(what: &str, done: u64, total: Option<u64>, taken: Duration) -> String {
     }
 }
 
+/// How many places of a line a character takes, at most.
+fn places(c: char) -> usize {
+    match c.is_ascii() {
+        true => 1,
+        false => 2,
+    }
+}
+
 /// A line that stays within this width, so that it can be written over: where it is longer, its beginning goes, since how far
 /// the work has come stands at its end. The last place of a line stays free, where some terminals go to the next line.
 fn fitted(line: &str, width: usize) -> String {
     let room = width.saturating_sub(1);
-    let all = line.chars().count();
-    if all <= room {
+    if line.chars().map(places).sum::<usize>() <= room {
         return line.to_string();
     }
     let dots = room.min(3);
-    let kept = room.saturating_sub(dots);
-    let end: String = line.chars().skip(all.saturating_sub(kept)).collect();
+    let mut left = room.saturating_sub(dots);
+    let mut kept: Vec<char> = Vec::new();
+    for c in line.chars().rev() {
+        match left.checked_sub(places(c)) {
+            Some(rest) => left = rest,
+            None => break,
+        }
+        kept.push(c);
+    }
+    let end: String = kept.into_iter().rev().collect();
     format!("{}{end}", ".".repeat(dots))
 }
 
@@ -132,7 +147,7 @@ mod tests {
         for width in 0..60 {
             assert!(fitted(line, width).chars().count() <= width.saturating_sub(1));
         }
-        assert!(fitted("é: 25 %", 7).ends_with(" %"));
+        assert_eq!(fitted("測量測量.las: 25 %", 18), "...測量.las: 25 %");
     }
 
     #[test]

@@ -934,6 +934,8 @@ fn json_before_the_command() {
     let before = on(&["--json", "check"], &sample());
     assert_eq!(before, on(&["check", "--json"], &sample()));
     assert_eq!(objects(&before.0), 1);
+    let (_, err, _) = told(&run(&["--jsno", "check"]));
+    assert!(err.contains("did you mean --json?"));
     let (_, err, status) = told(&run(&["--limit", "5"]));
     assert!(err.contains("there is no option '--limit' before the command"));
     assert_eq!(status, Some(2));
@@ -943,7 +945,8 @@ fn json_before_the_command() {
 fn what_was_meant() {
     let (_, err, status) = told(&run(&["chek", "a.las"]));
     assert!(
-        err.contains("there is no command 'chek'; did you mean check?"),
+        err.contains("there is no command 'chek' (there are check, parts,")
+            && err.ends_with("did you mean check?\n"),
         "{err}"
     );
     assert_eq!(status, Some(2));
@@ -977,22 +980,55 @@ fn folders() {
         .collect();
     assert_eq!(names, ["a.LAS", "b.las", "c.las", "3 files"]);
     assert!(
-        out.ends_with("3 files: 2 accepted, 1 refused; 3 other files there are no .las files\n"),
+        out.ends_with("3 files: 2 accepted, 1 refused; 3 others there are no .las files\n"),
         "{out}"
     );
     assert_eq!((err.as_str(), status), ("", Some(1)));
     let (out, err, _) = on(&["check", "--json"], &all);
     assert_eq!(objects(&out), 3);
-    assert!(err.contains("3 other files there are no .las files"));
+    assert!(err.contains("3 others there are no .las files"));
     for command in ["parts", "info"] {
         let (out, err, status) = on(&[command], &all);
         assert!(out.contains("a.LAS") && out.contains("b.las"));
-        assert!(err.contains("3 other files") && err.contains("c.las: refused 12 3 0"));
+        assert!(err.contains("3 others there") && err.contains("c.las: refused 12 3 0"));
         assert_eq!(status, Some(1));
     }
     let (_, err, status) = on(&["check"], &folder.join("more.las"));
     assert!(err.contains("there is no .las file in this folder"));
     assert_eq!(status, Some(2));
+}
+
+#[test]
+fn progress_fits_the_terminal() {
+    let folder = Folder::new("width");
+    let path = folder.join("a-name-that-is-longer-than-a-line-of-this-terminal.las");
+    huge(&path);
+    let watched = format!(
+        "stty cols 40; timeout 2 {} points {} >/dev/null",
+        env!("CARGO_BIN_EXE_inscjarol"),
+        path.display()
+    );
+    // `script` is what makes a terminal.
+    let output = match Command::new("script")
+        .args(["-qec", &watched, "/dev/null"])
+        .output()
+    {
+        Ok(output) => output,
+        Err(_) => return,
+    };
+    let shown = String::from_utf8(output.stdout).unwrap();
+    let lines: Vec<&str> = shown
+        .split("\r\x1b[K")
+        .filter(|line| line.contains('%'))
+        .collect();
+    assert!(!lines.is_empty(), "{shown:?}");
+    for line in lines {
+        assert!(line.chars().count() < 40, "{line:?}");
+        assert!(
+            line.starts_with("...") && line.contains(".las: "),
+            "{line:?}"
+        );
+    }
 }
 
 #[test]
@@ -1095,9 +1131,15 @@ fn help() {
         assert!(taught.contains(&format!("Usage: inscjarol {command}")));
     }
     assert_eq!(told(&run(&["help", "me"])).2, Some(2));
-    let (out, err, status) = told(&run(&["help", "help"]));
-    assert!(out.contains("Usage: inscjarol help [COMMAND]"));
-    assert_eq!((err.as_str(), status), ("", Some(0)));
+    for (topic, words) in [
+        ("help", "Usage: inscjarol help [COMMAND]"),
+        ("version", "which version"),
+        ("json", "refusal.number"),
+    ] {
+        let (out, err, status) = told(&run(&["help", topic]));
+        assert!(out.contains(words));
+        assert_eq!((err.as_str(), status), ("", Some(0)));
+    }
     assert_eq!(
         told(&run(&["--version"])).0,
         concat!("inscjarol ", env!("CARGO_PKG_VERSION"), "\n")
