@@ -129,6 +129,14 @@ impl<'a> File<'a> {
     }
 
     /// The VLRs, which stand between the header and the points.
+    ///
+    /// ```
+    /// # let bytes = std::fs::read("../samples/stockpile.las")?;
+    /// let file = inscjarol::File::check(&bytes)?;
+    /// let users: Vec<_> = file.vlrs().map(|vlr| vlr.user().into_owned()).collect();
+    /// assert_eq!(users, ["LASF_Projection", "LASF_Spec"]);
+    /// # Ok::<(), Box<dyn std::error::Error>>(())
+    /// ```
     pub fn vlrs(&self) -> Vlrs<'a> {
         let count = u64::from(self.header.number_of_variable_length_records);
         self.records_of(PartKind::Vlr, count)
@@ -195,6 +203,22 @@ impl<'a> File<'a> {
 }
 
 /// What a part of a file is. A later version may know more kinds.
+///
+/// ```
+/// # let bytes = std::fs::read("../samples/stockpile.las")?;
+/// use inscjarol::{File, PartKind};
+///
+/// let file = File::check(&bytes)?;
+/// let mut of_records = 0;
+/// for part in file.parts() {
+///     match part.kind {
+///         PartKind::Vlr | PartKind::Evlr => of_records += part.len,
+///         _ => {}
+///     }
+/// }
+/// assert_eq!(of_records, 867);
+/// # Ok::<(), Box<dyn std::error::Error>>(())
+/// ```
 #[derive(Clone, Copy, Debug, PartialEq, Eq, Hash)]
 #[non_exhaustive]
 pub enum PartKind {

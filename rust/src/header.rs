@@ -126,6 +126,16 @@ pub struct Header {
 impl Header {
     /// A header of this version with no points and no records, of point format 0, whose points would follow it directly:
     /// scales are 1, and all that is not said here is zero. Refused with 3 where there is no such version.
+    ///
+    /// ```
+    /// use inscjarol::{File, Header, Version};
+    ///
+    /// let mut header = Header::new(Version { major: 1, minor: 2 })?;
+    /// header.set_software("somebody's");
+    /// let bytes = header.to_vec(&[])?;
+    /// assert_eq!(File::check(&bytes)?.header(), &header);
+    /// # Ok::<(), inscjarol::Refusal>(())
+    /// ```
     pub fn new(version: Version) -> Result<Header, Refusal> {
         let header_size = version.header_size()?;
         Ok(Header {

@@ -11,7 +11,7 @@ use inscjarol::{Kind, Mapped};
 use std::{
     ffi::{OsStr, OsString},
     fmt,
-    fs::{self, File, FileType, Metadata},
+    fs::{self, File, FileType},
     io::{self, Read, Seek},
     os::unix::{
         fs::{FileTypeExt, MetadataExt},
@@ -50,24 +50,30 @@ impl fmt::Display for Name {
     }
 }
 
-/// A file's bytes, and which file it is.
-pub(crate) struct Input {
-    held: Held,
-    /// What tells it from every other file of the system.
-    pub(crate) id: (u64, u64),
-}
-
-/// Bytes: mapped where they are of a regular file, else read into memory.
-enum Held {
+/// A file's bytes: mapped where it is a regular file, else read into memory.
+pub(crate) enum Input {
     Mapped(Mapped),
     Read(Vec<u8>),
+}
+
+/// What tells a file from every other file of the system.
+pub(crate) fn id(name: &OsStr) -> io::Result<(u64, u64)> {
+    let about = match name == "-" {
+        true => standard_input()?.metadata()?,
+        false => fs::metadata(name)?,
+    };
+    Ok((about.dev(), about.ino()))
+}
+
+fn standard_input() -> io::Result<File> {
+    Ok(File::from(io::stdin().as_fd().try_clone_to_owned()?))
 }
 
 impl Input {
     /// Opens a file; `-` is the standard input.
     pub(crate) fn open(name: &OsStr) -> io::Result<Input> {
         if name == "-" {
-            return Input::of(File::from(io::stdin().as_fd().try_clone_to_owned()?));
+            return Input::of(standard_input()?);
         }
         let path = Path::new(name);
         // To open a device may do something: what it is is asked first.
@@ -79,20 +85,18 @@ impl Input {
     fn of(mut file: File) -> io::Result<Input> {
         let about = file.metadata()?;
         readable(about.file_type())?;
-        let id = (about.dev(), about.ino());
         // Of a regular file that somebody has read from already only the rest counts.
-        let held = match about.is_file() && matches!(file.stream_position(), Ok(0)) {
-            true => Held::Mapped(os::map(&file)?),
-            false => Held::Read(read(file, free())?),
-        };
-        Ok(Input { held, id })
+        match about.is_file() && matches!(file.stream_position(), Ok(0)) {
+            true => os::map(&file).map(Input::Mapped),
+            false => read(file, free()).map(Input::Read),
+        }
     }
 
     /// The bytes.
     pub(crate) fn bytes(&self) -> &[u8] {
-        match &self.held {
-            Held::Mapped(map) => map,
-            Held::Read(bytes) => bytes,
+        match self {
+            Input::Mapped(map) => map,
+            Input::Read(bytes) => bytes,
         }
     }
 }
@@ -201,7 +205,7 @@ impl Files {
         found.retain(|name| {
             let named = Path::new(name).extension();
             named.map_or(false, |named| named.eq_ignore_ascii_case("las"))
-                && fs::metadata(folder.join(name)).map_or(true, |about: Metadata| !about.is_dir())
+                && fs::metadata(folder.join(name)).map_or(true, |about| !about.is_dir())
         });
         self.others = self
             .others

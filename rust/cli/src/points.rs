@@ -112,18 +112,18 @@ fn write(asked: &Asked, name: &Name, file: &File<'_>, out: &mut Output) -> Resul
         out.line(&row.heading())?;
     }
     let progress = Progress::of_output(format!("points of {name}"), total);
-    let mut points = file
-        .points()
-        .skip(usize::try_from(asked.skip).unwrap_or(usize::MAX));
-    let mut lines = Vec::new();
+    let mut points = file.points();
+    if let Some(last) = asked.skip.checked_sub(1) {
+        points.nth(usize::try_from(last).unwrap_or(usize::MAX));
+    }
+    let mut lines = Vec::with_capacity(GATHERED.saturating_mul(2));
     for done in 0..total {
-        let point = match points.next() {
-            Some(point) => point,
+        // Looked at where it is: a point is large.
+        let point = points.next();
+        match &point {
+            Some(point) if out.json => row.json(point, &mut lines),
+            Some(point) => row.csv(point, &mut lines),
             None => break,
-        };
-        match out.json {
-            true => row.json(&point, &mut lines),
-            false => row.csv(&point, &mut lines),
         }
         if lines.len() >= GATHERED {
             out.bytes(&lines)?;

@@ -59,17 +59,22 @@ fn run(words: &Words, out: &mut Output) -> Result<Status, Failure> {
         )));
     }
     let (name, target) = (Name::new(from), Name::new(to));
-    let input = match Input::open(from) {
-        Ok(input) => input,
+    // Whether OUT may be written is asked before IN is read.
+    let id = match input::id(from) {
+        Ok(id) => id,
         Err(error) => return out.failed(&name, &input::words(&error)),
     };
     let place = Target::find(Path::new(to)).and_then(|place| {
-        place.judge(input.id, words.has("force"))?;
+        place.judge(id, words.has("force"))?;
         Ok(place)
     });
     let place = match place {
         Ok(place) => place,
         Err(error) => return out.failed(&target, &unwritten(&error)),
+    };
+    let input = match Input::open(from) {
+        Ok(input) => input,
+        Err(error) => return out.failed(&name, &input::words(&error)),
     };
     let file = match File::check(input.bytes()) {
         Ok(file) => file,

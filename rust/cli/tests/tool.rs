@@ -580,6 +580,16 @@ fn what_is_there_is_not_replaced_without_a_word() {
     let (out, _, _) = told(&rewrite(&one, &two, &["--json"]));
     assert!(out.contains("\"error\":\"it is there already"));
 
+    // That is told before IN is read: nobody ever writes to this pipe.
+    let pipe = folder.join("pipe");
+    let made = Command::new("mkfifo").arg(&pipe).status();
+    if made.map_or(false, |status| status.success()) {
+        assert!(told(&rewrite(&pipe, &two, &[]))
+            .1
+            .contains("it is there already"));
+        fs::remove_file(pipe).unwrap();
+    }
+
     // Itself, by whatever name, and from the standard input.
     let again = folder.join("again.las");
     fs::hard_link(&one, &again).unwrap();
