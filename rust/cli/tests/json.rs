@@ -44,7 +44,9 @@ fn told() -> BTreeMap<String, Fields> {
 /// Reads a value and notes its fields; answers the rest.
 fn read<'t>(text: &'t str, path: &str, fields: &mut Fields) -> &'t str {
     let mut note = |of: &str| match fields.iter_mut().find(|(name, _)| name == path) {
-        Some((_, types)) => drop(types.insert(of.to_string())),
+        Some((_, types)) => {
+            types.insert(of.to_string());
+        }
         None => fields.push((path.to_string(), [of.to_string()].into())),
     };
     match text.chars().next().unwrap() {

@@ -653,7 +653,8 @@ fn the_owner_is_kept() {
     let one = folder.put("one.las", &plain(1));
     let two = folder.put("two.las", &plain(2));
     // Who may give files away is asked to keep them where they are.
-    if std::os::unix::fs::chown(&two, Some(12_345), Some(23_456)).is_err() {
+    let given = Command::new("chown").arg("12345:23456").arg(&two).output();
+    if !given.map_or(false, |given| given.status.success()) {
         return;
     }
     fs::set_permissions(&two, fs::Permissions::from_mode(0o2660)).unwrap();
