@@ -1015,7 +1015,7 @@ fn progress_fits_the_terminal() {
     let path = folder.join("a-name-that-is-longer-than-a-line-of-this-terminal.las");
     huge(&path);
     let watched = format!(
-        "stty cols 40; timeout 2 {} points {} >/dev/null",
+        "stty cols 40; timeout 3 {} points {} >/dev/null",
         env!("CARGO_BIN_EXE_inscjarol"),
         path.display()
     );
