@@ -42,7 +42,9 @@ int main(int argc, char **argv) {
         return 1;
     }
     while (las_cursor_next(file, len, cursor, part)) {
-        printf("%s %" PRIu64 " %" PRIu64 "\n", kinds[part[LAS_ENTRY_KIND]], part[LAS_ENTRY_START], part[LAS_ENTRY_LENGTH]);
+        /* A later version may know more kinds. */
+        const char *kind = part[LAS_ENTRY_KIND] < sizeof kinds / sizeof *kinds ? kinds[part[LAS_ENTRY_KIND]] : "other";
+        printf("%s %" PRIu64 " %" PRIu64 "\n", kind, part[LAS_ENTRY_START], part[LAS_ENTRY_LENGTH]);
     }
 
     /* The first three points, by the header's scale and offset. */

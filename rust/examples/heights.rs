@@ -1,10 +1,11 @@
-use inscjarol::File;
-use std::{env, error::Error, fs};
+use inscjarol::{File, Mapped};
+use std::{env, error::Error};
 
 /// The lowest and the highest point of a file, what is withheld left out, and whether its points can be made old.
 fn main() -> Result<(), Box<dyn Error>> {
     let path = env::args_os().nth(1).ok_or("which file?")?;
-    let bytes = fs::read(path)?;
+    // SAFETY: nothing writes to the file meanwhile. Where that is not sure, std::fs::read makes a copy.
+    let bytes = unsafe { Mapped::open(path)? };
 
     // Refused with a sentence where the bytes are no whole LAS file.
     let file = File::check(&bytes)?;

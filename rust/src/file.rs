@@ -30,9 +30,10 @@ pub struct Checked {
 pub struct File<'a> {
     bytes: &'a [u8],
     allowance: u64,
-    records: u64,
     header: Header,
     format: Format,
+    /// Before the first point.
+    place: Place,
 }
 
 impl<'a> File<'a> {
@@ -59,14 +60,14 @@ impl<'a> File<'a> {
 
     /// The same with an allowance of VLRs and EVLRs: one more than that is refused with 10, so that the time is bounded.
     pub fn check_within(bytes: &'a [u8], allowance: u64) -> Result<File<'a>, Refusal> {
-        let Checked { answer, records } = File::judge(bytes, allowance);
-        answer?;
+        // The one check, whose refusal the place holds; so the points need no other.
+        let place = sys::file_walker(bytes, allowance)?;
         Ok(File {
             bytes,
             allowance,
-            records,
             header: Header::read(bytes)?,
             format: sys::header_point_format(bytes).map(Format::from_word)?,
+            place,
         })
     }
 
@@ -98,7 +99,14 @@ impl<'a> File<'a> {
 
     /// How many VLRs and EVLRs there are, both kinds together.
     pub fn records(&self) -> u64 {
-        self.records
+        let vlrs = u64::from(self.header.number_of_variable_length_records);
+        vlrs.saturating_add(self.evlr_count())
+    }
+
+    /// How many EVLRs there are.
+    fn evlr_count(&self) -> u64 {
+        let evlrs = self.header.evlrs;
+        evlrs.map_or(0, |evlrs| u64::from(evlrs.number_of_evlrs))
     }
 
     /// How many points there are: the legacy count if it isn't 0, else the large count.
@@ -121,6 +129,14 @@ impl<'a> File<'a> {
     }
 
     /// The VLRs, which stand between the header and the points.
+    ///
+    /// ```
+    /// # let bytes = std::fs::read("../samples/stockpile.las")?;
+    /// let file = inscjarol::File::check(&bytes)?;
+    /// let users: Vec<_> = file.vlrs().map(|vlr| vlr.user().into_owned()).collect();
+    /// assert_eq!(users, ["LASF_Projection", "LASF_Spec"]);
+    /// # Ok::<(), Box<dyn std::error::Error>>(())
+    /// ```
     pub fn vlrs(&self) -> Vlrs<'a> {
         let count = u64::from(self.header.number_of_variable_length_records);
         self.records_of(PartKind::Vlr, count)
@@ -128,11 +144,7 @@ impl<'a> File<'a> {
 
     /// The EVLRs, which stand after the points.
     pub fn evlrs(&self) -> Vlrs<'a> {
-        let count = self
-            .header
-            .evlrs
-            .map_or(0, |evlrs| u64::from(evlrs.number_of_evlrs));
-        self.records_of(PartKind::Evlr, count)
+        self.records_of(PartKind::Evlr, self.evlr_count())
     }
 
     /// The records of a kind, of which there are this many.
@@ -145,11 +157,20 @@ impl<'a> File<'a> {
         }
     }
 
-    /// The points, each in turn. `len` says how many are left, and `nth` goes there without reading what lies between.
+    /// The points, each in turn. `len` and `count` say how many are left, and `nth` and `last` go there, without reading what
+    /// lies between. Asking for the points costs nothing: the file was checked when it was made a [`File`].
+    ///
+    /// ```
+    /// # let bytes = std::fs::read("../samples/stockpile.las")?;
+    /// let file = inscjarol::File::check(&bytes)?;
+    /// assert_eq!(file.points().count(), 2_998);
+    /// assert_eq!(file.points().last(), file.points().nth(2_997));
+    /// # Ok::<(), Box<dyn std::error::Error>>(())
+    /// ```
     pub fn points(&self) -> Points<'a> {
         Points {
             file: self.bytes,
-            place: sys::file_walker(self.bytes, self.allowance),
+            place: self.place,
             record_length: u64::from(self.header.point_data_record_length),
             extra: sys::layout_extra(self.format.word()),
         }
@@ -181,8 +202,25 @@ impl<'a> File<'a> {
     }
 }
 
-/// What a part of a file is.
+/// What a part of a file is. A later version may know more kinds.
+///
+/// ```
+/// # let bytes = std::fs::read("../samples/stockpile.las")?;
+/// use inscjarol::{File, PartKind};
+///
+/// let file = File::check(&bytes)?;
+/// let mut of_records = 0;
+/// for part in file.parts() {
+///     match part.kind {
+///         PartKind::Vlr | PartKind::Evlr => of_records += part.len,
+///         _ => {}
+///     }
+/// }
+/// assert_eq!(of_records, 867);
+/// # Ok::<(), Box<dyn std::error::Error>>(())
+/// ```
 #[derive(Clone, Copy, Debug, PartialEq, Eq, Hash)]
+#[non_exhaustive]
 pub enum PartKind {
     /// The header with its padding.
     Header,
@@ -323,6 +361,14 @@ impl<'a> Iterator for Points<'a> {
         *left = left.saturating_sub(skipped);
         *at = at.saturating_add(skipped.saturating_mul(self.record_length));
         self.next()
+    }
+
+    fn count(self) -> usize {
+        self.len()
+    }
+
+    fn last(mut self) -> Option<Point<'a>> {
+        self.nth(self.len().checked_sub(1)?)
     }
 }
 

@@ -15,6 +15,15 @@ pub enum ScanDirection {
 /// A point's flags, as they are stored.
 ///
 /// Two flags are equal when their three bytes ([`Flags::to_three_bytes`]) are.
+///
+/// ```
+/// use inscjarol::Flags;
+///
+/// // The first of two returns, of class 2, where flight lines overlap.
+/// let flags = Flags::ThreeByte(0x21, 0x08, 2);
+/// assert_eq!((flags.return_number(), flags.number_of_returns()), (1, 2));
+/// assert!(flags.is_overlap() && flags.class() == 2);
+/// ```
 #[derive(Clone, Copy)]
 pub enum Flags {
     /// The two bytes of formats 0 to 5.

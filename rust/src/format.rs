@@ -24,6 +24,16 @@ pub struct Format {
 impl Format {
     /// The format with this code. Codes 0 to 10 are known; one of 128 or more is masked and marked as compressed; the others
     /// are refused with 5.
+    ///
+    /// ```
+    /// use inscjarol::Format;
+    ///
+    /// let format = Format::new(6)?.with_extra_bytes(2);
+    /// assert!(format.is_extended && format.has_gps_time);
+    /// assert_eq!(format.len()?, 32);
+    /// assert_eq!(Format::new(11).unwrap_err().number(), 5);
+    /// # Ok::<(), inscjarol::Refusal>(())
+    /// ```
     pub fn new(code: u8) -> Result<Format, Refusal> {
         sys::format_new(code).map(Format::from_word)
     }

@@ -47,6 +47,15 @@ pub struct LargeFile {
     pub number_of_points_by_return: [u64; 15],
 }
 
+/// The box that all points of a file lie in, as its header says.
+#[derive(Clone, Copy, Debug, PartialEq)]
+pub struct Bounds {
+    /// The smallest x, y and z.
+    pub min: [f64; 3],
+    /// The largest x, y and z.
+    pub max: [f64; 3],
+}
+
 /// A header, field by field in the standard's order.
 ///
 /// Floats keep every bit, a NaN's too. Two headers are equal when all their bits are.
@@ -117,6 +126,16 @@ pub struct Header {
 impl Header {
     /// A header of this version with no points and no records, of point format 0, whose points would follow it directly:
     /// scales are 1, and all that is not said here is zero. Refused with 3 where there is no such version.
+    ///
+    /// ```
+    /// use inscjarol::{File, Header, Version};
+    ///
+    /// let mut header = Header::new(Version { major: 1, minor: 2 })?;
+    /// header.set_software("somebody's");
+    /// let bytes = header.to_vec(&[])?;
+    /// assert_eq!(File::check(&bytes)?.header(), &header);
+    /// # Ok::<(), inscjarol::Refusal>(())
+    /// ```
     pub fn new(version: Version) -> Result<Header, Refusal> {
         let header_size = version.header_size()?;
         Ok(Header {
@@ -216,6 +235,24 @@ impl Header {
     /// The coordinate of a z as it is stored.
     pub fn z(&self, stored: i32) -> f64 {
         f64::from(stored) * self.z_scale_factor + self.z_offset
+    }
+
+    /// The smallest and the largest coordinates, which are the header's word and not worked out from the points.
+    ///
+    /// ```
+    /// # let bytes = std::fs::read("../samples/stockpile.las")?;
+    /// let file = inscjarol::File::check(&bytes)?;
+    /// let bounds = file.header().bounds();
+    /// let [_, _, low] = bounds.min;
+    /// let [_, _, high] = bounds.max;
+    /// assert_eq!(format!("from {low} to {high}"), "from 109.236 to 116.762");
+    /// # Ok::<(), Box<dyn std::error::Error>>(())
+    /// ```
+    pub fn bounds(&self) -> Bounds {
+        Bounds {
+            min: [self.min_x, self.min_y, self.min_z],
+            max: [self.max_x, self.max_y, self.max_z],
+        }
     }
 
     /// The counts of points by return that go with the effective count: the legacy ones where the legacy count isn't 0.
@@ -495,6 +532,15 @@ mod tests {
                 .large_file
                 .map(|large| large.number_of_points_by_return)
         );
+    }
+
+    #[test]
+    fn bounds_are_six_fields() {
+        let mut header = Header::new(V14).unwrap();
+        (header.min_x, header.min_y, header.min_z) = (1.0, 2.0, 3.0);
+        (header.max_x, header.max_y, header.max_z) = (4.0, 5.0, 6.0);
+        let Bounds { min, max } = header.bounds();
+        assert_eq!((min, max), ([1.0, 2.0, 3.0], [4.0, 5.0, 6.0]));
     }
 
     #[test]

@@ -2,7 +2,8 @@
 //! is machine-proved. This crate is the library's face for Rust: it adds names, types and iterators, and no rules of its
 //! own.
 //!
-//! A [`File`] is bytes that were found to be a LAS file by the standard's rules. Everything that is asked of it then has an
+//! A [`File`] is bytes that were found to be a LAS file by the standard's rules; [`Mapped`] has those of a file on the disk,
+//! whatever its size. Everything that is asked of it then has an
 //! answer: its [`Header`], its [`Part`]s, its [`Vlr`]s and its [`Point`]s. What cannot be answered is a [`Refusal`], with a
 //! number and a sentence.
 //!
@@ -20,7 +21,7 @@
 //! # }
 //! # fn main() -> Result<(), inscjarol::Refusal> {
 //! # let bytes = made()?;
-//! // The bytes of a file, as std::fs::read gives them.
+//! // The bytes of a file, as std::fs::read gives them, or as `Mapped` shows them without reading.
 //! let file = inscjarol::File::check(&bytes)?;
 //! let header = file.header();
 //! println!("LAS {}, point format {}", header.version, header.point_data_record_format);
@@ -65,7 +66,8 @@
 //! proved; this crate, which turns the library's numbers into types, and `inscjarol-sys` under it, which declares the
 //! library's calls by hand, are tested.
 
-#![forbid(unsafe_code)]
+// But for the memory map.
+#![deny(unsafe_code, unsafe_op_in_unsafe_fn)]
 #![deny(missing_docs, rustdoc::broken_intra_doc_links)]
 #![cfg_attr(
     not(test),
@@ -84,6 +86,7 @@ mod file;
 mod flags;
 mod format;
 mod header;
+mod map;
 mod point;
 mod refusal;
 mod sys;
@@ -95,7 +98,8 @@ pub use convert::Run;
 pub use file::{allowance_for, Checked, File, Part, PartKind, Parts, Points, Vlrs};
 pub use flags::{Flags, ScanDirection};
 pub use format::Format;
-pub use header::{Evlrs, Header, LargeFile, Version};
+pub use header::{Bounds, Evlrs, Header, LargeFile, Version};
+pub use map::Mapped;
 pub use point::{Color, Point, Waveform};
 pub use refusal::{Kind, Refusal};
 pub use text::text;

@@ -79,6 +79,17 @@ pub struct Point<'a> {
 impl<'a> Point<'a> {
     /// The point in the first bytes of a record: refused with 8 where the format is overlong, and with 1 where the record
     /// is not all there.
+    ///
+    /// ```
+    /// use inscjarol::{Format, Point};
+    ///
+    /// let format = Format::new(0)?;
+    /// let point = Point { x: 150, intensity: 7, ..Point::default() };
+    /// let record = point.to_vec(format)?;
+    /// assert_eq!(Point::read(&record, format)?, point);
+    /// assert_eq!(Point::read(&record[..19], format).unwrap_err().value(), 20);
+    /// # Ok::<(), inscjarol::Refusal>(())
+    /// ```
     pub fn read(record: &'a [u8], format: Format) -> Result<Point<'a>, Refusal> {
         let numbers = sys::point_read(record, format.word())?;
         Ok(Point::from_numbers(

@@ -186,7 +186,14 @@ impl Kind {
 /// assert_eq!((refusal.number(), refusal.name(), refusal.value(), refusal.record()), (1, "short", 4, 0));
 /// assert_eq!(refusal.to_string(), "too short: 4 bytes are needed to begin with");
 /// ```
-#[derive(Clone, Copy, Debug, PartialEq, Eq, Hash)]
+///
+/// Shown with `{:?}`, as a `main` does that ends with one, it has its numbers before the sentence:
+///
+/// ```
+/// # let refusal = inscjarol::File::check(b"").unwrap_err();
+/// assert_eq!(format!("{refusal:?}"), "refused 1 4 0 (short): too short: 4 bytes are needed to begin with");
+/// ```
+#[derive(Clone, Copy, PartialEq, Eq, Hash)]
 pub struct Refusal {
     kind: Kind,
     value: u64,
@@ -238,6 +245,17 @@ impl Refusal {
 }
 
 impl error::Error for Refusal {}
+
+impl fmt::Debug for Refusal {
+    fn fmt(&self, f: &mut fmt::Formatter<'_>) -> fmt::Result {
+        let (number, value, record) = (self.number(), self.value, self.record);
+        write!(
+            f,
+            "refused {number} {value} {record} ({}): {self}",
+            self.name()
+        )
+    }
+}
 
 impl fmt::Display for Refusal {
     fn fmt(&self, f: &mut fmt::Formatter<'_>) -> fmt::Result {
@@ -430,6 +448,18 @@ mod tests {
         sentences.dedup();
         assert_eq!((names.len(), sentences.len()), (27, 27));
         assert!(sentences.iter().all(|words| !words.ends_with('.')));
+    }
+
+    #[test]
+    fn who_prints_it_for_debugging_sees_the_sentence_too() {
+        let refusal = Refusal::from_row(12, 2_998, 0);
+        assert_eq!(
+            format!("Error: {refusal:?}"),
+            format!("Error: refused 12 2998 0 (point extent): {refusal}")
+        );
+        assert!(
+            format!("{:?}", Refusal::from_row(99, 7, 3)).starts_with("refused 99 7 3 (unknown)")
+        );
     }
 
     fn words(number: u64, value: u64, record: u64) -> String {

@@ -279,10 +279,12 @@ pub(crate) fn file_record<'a>(file: &'a [u8], place: &Place) -> &'a [u8] {
     told(file, |part| calls::las_file_record(file, place, part))
 }
 
-pub(crate) fn file_walker(file: &[u8], allowance: u64) -> Place {
+/// The place before the first point, or the refusal that it holds.
+pub(crate) fn file_walker(file: &[u8], allowance: u64) -> Result<Place, Refusal> {
     let mut place = [0; 7];
     calls::las_file_walker(file, allowance, &mut place);
-    place
+    let [_, _, _, _, number, value, record] = place;
+    answer([number, value, record]).map(|_| place)
 }
 
 pub(crate) fn file_next(file: &[u8], place: &mut Place) -> Result<PointNumbers, Refusal> {

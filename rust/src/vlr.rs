@@ -26,6 +26,15 @@ pub struct Vlr<'a> {
 
 impl<'a> Vlr<'a> {
     /// A record with these texts, as far as they fit, and this data.
+    ///
+    /// ```
+    /// use inscjarol::Vlr;
+    ///
+    /// let vlr = Vlr::new(false, "somebody", 7, "a note", b"some data");
+    /// let bytes = vlr.to_vec()?;
+    /// assert_eq!(Vlr::read(&bytes, false)?, vlr);
+    /// # Ok::<(), inscjarol::Refusal>(())
+    /// ```
     pub fn new(extended: bool, user: &str, record_id: u16, about: &str, data: &'a [u8]) -> Vlr<'a> {
         Vlr {
             extended,

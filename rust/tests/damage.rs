@@ -39,7 +39,7 @@ fn agree(bytes: &[u8]) -> bool {
                 assert_eq!(vlr.to_vec().unwrap(), file.part(part));
             }
             PartKind::Points => points_part = Some(part),
-            PartKind::Header | PartKind::Gap => {}
+            _ => {}
         }
     }
     assert_eq!(at, bytes.len() as u64);
@@ -53,6 +53,12 @@ fn agree(bytes: &[u8]) -> bool {
     let length = usize::from(file.header().point_data_record_length);
     assert_eq!(run.len() % length, 0);
     assert_eq!(file.points().len(), run.len() / length);
+    assert_eq!(file.points().count(), run.len() / length);
+    let last = run.chunks_exact(length).last();
+    assert_eq!(
+        file.points().last(),
+        last.map(|record| Point::read(record, format).unwrap())
+    );
     assert_eq!(file.point_count(), (run.len() / length) as u64);
     for (record, point) in run.chunks_exact(length).zip(file.points()) {
         assert_eq!(Point::read(record, format), Ok(point));

@@ -2,9 +2,14 @@
 
 mod common;
 
-use common::{plain, rich, two_points, TWO_POINTS};
+use common::{plain, rich, two_points, Folder, TWO_POINTS};
 use inscjarol::{
-    allowance_for, Checked, File, Format, Header, Kind, Part, PartKind, Point, Refusal, Version,
+    allowance_for, Checked, File, Format, Header, Kind, LargeFile, Mapped, Part, PartKind, Point,
+    Refusal, Version,
+};
+use std::{
+    fs,
+    time::{Duration, Instant},
 };
 
 fn refused(bytes: &[u8]) -> (u64, u64, u64) {
@@ -207,6 +212,63 @@ fn going_to_a_point_at_once() {
     assert_eq!(file.points().skip(2).step_by(2).count(), 2);
     assert_eq!(file.points().last(), all.last().copied());
     assert_eq!(file.points().nth(usize::MAX), None);
+}
+
+/// A file of 20 GB in format 6, all zeros after its header, on a disk that has no room for that.
+fn huge(folder: &Folder) -> Mapped {
+    let mut header = Header::new(Version { major: 1, minor: 4 }).unwrap();
+    header.point_data_record_format = 6;
+    header.point_data_record_length = 30;
+    header.large_file = Some(LargeFile {
+        number_of_point_records: 600_000_000,
+        ..LargeFile::default()
+    });
+    let path = folder.put("huge.las", &header.to_vec(&[]).unwrap());
+    let file = fs::File::options().write(true).open(&path).unwrap();
+    file.set_len(20_000_000_000).unwrap();
+    // SAFETY: the file is this test's own, and nobody writes to it any more.
+    unsafe { Mapped::open(path) }.unwrap()
+}
+
+#[test]
+fn counting_and_the_last_point_at_once() {
+    let folder = Folder::new("library-huge");
+    let bytes = huge(&folder);
+    let begun = Instant::now();
+    let file = File::check(&bytes).unwrap();
+    assert_eq!(file.points().count(), 600_000_000);
+    assert_eq!(file.points().skip(100).count(), 599_999_900);
+    assert_eq!(file.points().last(), file.points().nth(599_999_999));
+    assert_eq!(file.points().nth(600_000_000), None);
+    let mut none = file.points();
+    assert!(none.nth(599_999_999).is_some());
+    assert_eq!((none.clone().last(), none.count()), (None, 0));
+    assert!(begun.elapsed() < Duration::from_secs(5));
+}
+
+#[test]
+fn points_are_asked_for_without_another_check() {
+    // A check goes through each of these records.
+    let count = 200_000;
+    let mut header = Header::new(Version { major: 1, minor: 2 }).unwrap();
+    header.number_of_variable_length_records = count;
+    header.offset_to_point_data = 227 + 54 * count;
+    let mut bytes = header.to_vec(&[]).unwrap();
+    bytes.resize(bytes.len() + 54 * count as usize, 0);
+    // The shortest of several turns, which a busy machine disturbs the least.
+    let time = |work: &dyn Fn()| {
+        let turns = (0..5).map(|_| {
+            let begun = Instant::now();
+            work();
+            begun.elapsed()
+        });
+        turns.min().unwrap()
+    };
+    let checked = time(&|| assert!(File::check(&bytes).is_ok()));
+    let file = File::check(&bytes).unwrap();
+    let asked = time(&|| (0..100).for_each(|_| assert_eq!(file.points().len(), 0)));
+    assert!(asked < checked, "{asked:?} {checked:?}");
+    assert_eq!(file.records(), u64::from(count));
 }
 
 #[test]

@@ -124,9 +124,16 @@ pub fn rich(code: u8, extra: u16) -> Vec<u8> {
     bytes
 }
 
+/// The folder of the repository, above the package that is tested.
+pub fn repository() -> PathBuf {
+    let here = Path::new(env!("CARGO_MANIFEST_DIR"));
+    let above = here.ancestors().find(|path| path.join("samples").is_dir());
+    above.unwrap().to_path_buf()
+}
+
 /// The sample that the repository ships.
 pub fn sample() -> PathBuf {
-    Path::new(env!("CARGO_MANIFEST_DIR")).join("../samples/stockpile.las")
+    repository().join("samples/stockpile.las")
 }
 
 /// A folder for one test, removed when it ends.

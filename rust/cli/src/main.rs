@@ -1,14 +1,36 @@
-//! The commands, their help, and how what comes of them becomes an exit status.
+//! The command-line tool `inscjarol`: `inscjarol help` teaches it. This file has the commands, their help, and how what comes
+//! of them becomes an exit status.
+//!
+//! A command is a file with a constant `COMMAND`, and a line in the table below. Only `os.rs` has `unsafe`: the calls of the
+//! operating system that the standard library does not have.
+
+#![deny(unsafe_code, missing_docs)]
+#![cfg_attr(
+    not(test),
+    deny(
+        clippy::unwrap_used,
+        clippy::expect_used,
+        clippy::panic,
+        clippy::unreachable,
+        clippy::indexing_slicing,
+        clippy::print_stdout,
+        clippy::print_stderr
+    )
+)]
+// Clippy as Debian packages it asks for `write!` into a string, whose error would have to be dropped each time.
+#![allow(clippy::format_push_string)]
 
 mod args;
 mod check;
 mod decimal;
+mod documented;
 mod extra;
 mod fields;
 mod info;
 mod input;
 mod json;
 mod known;
+mod near;
 mod os;
 mod output;
 mod parts;
@@ -20,7 +42,7 @@ mod show;
 
 use args::{Opt, Words};
 use output::Output;
-use std::{ffi::OsString, fmt::Write as _, io, process::ExitCode};
+use std::{env, ffi::OsString, fmt::Write as _, io, path::Path, process::ExitCode};
 
 /// A command: a new one is a file with a constant of this type, and a line in the table below.
 pub(crate) struct Command {
@@ -54,7 +76,7 @@ const COMMON: &[Opt] = &[
     Opt {
         name: "json",
         value: None,
-        help: "answer in JSON, for programs",
+        help: "answer in JSON, for programs: 'inscjarol help json'",
     },
     Opt {
         name: "help",
@@ -105,11 +127,10 @@ impl From<io::Error> for Failure {
     }
 }
 
-/// Runs the tool with these words.
-pub(crate) fn main(words: Vec<OsString>) -> ExitCode {
-    os::say_when_a_map_fails();
+fn main() -> ExitCode {
+    os::say_instead_of_signals();
     let mut out = Output::new();
-    let ended = run(words, &mut out).and_then(|status| {
+    let ended = run(env::args_os().skip(1), &mut out).and_then(|status| {
         out.flush()?;
         Ok(status)
     });
@@ -129,55 +150,84 @@ fn command(name: &str) -> Option<&'static Command> {
     COMMANDS.iter().find(|command| command.name == name)
 }
 
-fn run(words: Vec<OsString>, out: &mut Output) -> Result<Status, Failure> {
-    let mut words = words.into_iter();
-    let first = match words.next() {
-        Some(first) => first,
-        None => {
-            return Err(Failure::Usage(format!(
-                "no command was given\n\n{}",
-                overview()
-            )))
-        }
-    };
-    let name = first.to_string_lossy();
-    match name.as_ref() {
-        "help" | "--help" | "-h" => help(words.next(), out),
-        "version" | "--version" | "-V" => {
-            out.line(concat!("inscjarol ", env!("CARGO_PKG_VERSION")))?;
-            Ok(Status::Done)
-        }
-        _ => {
-            let command = command(&name).ok_or_else(|| unknown(&name))?;
-            let words = Words::of(command, words)?;
-            if words.has("help") {
-                out.line(&taught(command))?;
+/// Runs the tool with these words. What every command takes may stand before the command too.
+fn run(mut words: impl Iterator<Item = OsString>, out: &mut Output) -> Result<Status, Failure> {
+    let mut json = false;
+    let name = loop {
+        let word = words.next().ok_or_else(|| {
+            Failure::Usage(format!("no command was given\n\n{}", overview().trim_end()))
+        })?;
+        match word.to_string_lossy().as_ref() {
+            "--json" => json = true,
+            "help" | "--help" | "-h" => return help(words.next(), out),
+            "version" | "--version" | "-V" => {
+                out.line(concat!("inscjarol ", env!("CARGO_PKG_VERSION")))?;
                 return Ok(Status::Done);
             }
-            words.counted(command)?;
-            out.json = words.has("json");
-            (command.run)(&words, out)
+            name => break name.to_string(),
         }
+    };
+    let command = command(&name).ok_or_else(|| unknown(&name))?;
+    let words = Words::of(command, words)?;
+    if words.has("help") {
+        out.line(&taught(command))?;
+        return Ok(Status::Done);
     }
+    words.counted(command)?;
+    out.json = json || words.has("json");
+    (command.run)(&words, out)
 }
 
 /// `inscjarol help`, or `inscjarol help COMMAND`.
 fn help(name: Option<OsString>, out: &mut Output) -> Result<Status, Failure> {
-    match name {
-        None => out.line(overview().trim_end())?,
-        Some(name) => {
-            let name = name.to_string_lossy();
-            let command = command(&name).ok_or_else(|| unknown(&name))?;
-            out.line(&taught(command))?;
-        }
-    }
+    let text = match &name {
+        None => overview(),
+        Some(name) => match name.to_string_lossy().as_ref() {
+            "help" => String::from(HELP),
+            "json" => documented::text(),
+            "version" => String::from("inscjarol version: say which version of the tool this is"),
+            name => taught(command(name).ok_or_else(|| unknown(name))?),
+        },
+    };
+    out.line(text.trim_end())?;
     Ok(Status::Done)
 }
 
+/// What help says of itself.
+const HELP: &str = "\
+inscjarol help: teach a command
+
+Usage: inscjarol help [COMMAND]
+
+Without a command it says which commands there are. 'inscjarol COMMAND --help' says the same as 'inscjarol help COMMAND'.
+'inscjarol help json' says what --json prints, field by field.
+
+Examples:
+  inscjarol help points
+  inscjarol help json";
+
+/// That there is no such command, and what could be meant.
 fn unknown(name: &str) -> Failure {
-    let names: Vec<&str> = COMMANDS.iter().map(|command| command.name).collect();
+    let mut names: Vec<&str> = COMMANDS.iter().map(|command| command.name).collect();
+    names.push("help");
+    names.push("version");
+    if let Some(option) = name.strip_prefix('-').filter(|option| !option.is_empty()) {
+        let option = option.trim_start_matches('-');
+        let meant = near::nearest(option, ["json", "help", "version"]);
+        let meant = meant.map_or_else(String::new, |near| format!("; did you mean --{near}?"));
+        return Failure::Usage(format!(
+            "there is no option '{name}' before the command{meant}"
+        ));
+    }
+    let meant = match near::nearest(name, names.iter().copied()) {
+        _ if name == "-" || Path::new(name).exists() => {
+            format!("; a command comes first, as in 'inscjarol check {name}'")
+        }
+        Some(near) => format!("; did you mean {near}?"),
+        None => String::new(),
+    };
     Failure::Usage(format!(
-        "there is no command '{name}'; there are {} and help",
+        "there is no command '{name}' (there are {}){meant}",
         names.join(", ")
     ))
 }
@@ -193,7 +243,8 @@ fn overview() -> String {
     }
     text.push_str(
         "  help     teach a command: inscjarol help points\n\n\
-         Files may be of any size; - is the standard input. Every command takes --json.\n\
+         Files may be of any size; - is the standard input. Of a folder check, parts and info take the .las files.\n\
+         Every command takes --json: 'inscjarol help json' says what that prints.\n\
          Exit status: 0 all is well, 1 a file was refused, 2 wrong use or a file that cannot be read or written.\n\n\
          To begin with:\n  inscjarol check *.las\n  inscjarol info FILE\n  inscjarol points FILE | head\n",
     );
@@ -208,7 +259,7 @@ fn taught(command: &Command) -> String {
         command.summary,
         command.name,
         command.operands,
-        command.help.trim()
+        command.help.trim().replace("{fields}", &fields::listed())
     );
     for option in command.options.iter().chain(COMMON) {
         let name = match option.value {

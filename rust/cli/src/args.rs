@@ -1,6 +1,6 @@
 //! The words of a command line: options and files.
 
-use super::{Command, Failure, COMMON};
+use super::{near, Command, Failure, COMMON};
 use std::ffi::{OsStr, OsString};
 
 /// An option that a command takes.
@@ -27,6 +27,7 @@ impl Words {
         command: &Command,
         mut words: impl Iterator<Item = OsString>,
     ) -> Result<Words, Failure> {
+        let known = || command.options.iter().chain(COMMON);
         let mut taken = Words {
             options: Vec::new(),
             files: Vec::new(),
@@ -54,17 +55,20 @@ impl Words {
                 Some((name, given)) => (name, Some(OsString::from(given))),
                 None => (named.as_str(), None),
             };
-            let option = command
-                .options
-                .iter()
-                .chain(COMMON)
-                .find(|option| option.name == name);
-            let option = match option {
+            let option = match known().find(|option| option.name == name) {
                 Some(option) if !text.starts_with("--") && text != "-h" => {
                     return Err(wrong(command, format!("the option is --{}", option.name)));
                 }
                 Some(option) => option,
-                None => return Err(wrong(command, format!("there is no option '{text}'"))),
+                None => {
+                    let near = near::nearest(name, known().map(|option| option.name));
+                    let meant =
+                        near.map_or_else(String::new, |near| format!("; did you mean --{near}?"));
+                    return Err(wrong(
+                        command,
+                        format!("there is no option '{text}'{meant}"),
+                    ));
+                }
             };
             let value = match (option.value, given) {
                 (None, None) => OsString::new(),
@@ -125,8 +129,9 @@ impl Words {
 
 /// What is wrong, and where to read how it goes.
 fn wrong(command: &Command, words: String) -> Failure {
+    let after = if words.ends_with('?') { "" } else { ";" };
     Failure::Usage(format!(
-        "{}: {words}; 'inscjarol help {}' tells how it goes",
+        "{}: {words}{after} 'inscjarol help {}' tells how it goes",
         command.name, command.name
     ))
 }
@@ -134,7 +139,7 @@ fn wrong(command: &Command, words: String) -> Failure {
 #[cfg(test)]
 mod tests {
     use super::*;
-    use crate::cli::Status;
+    use crate::Status;
 
     const COMMAND: Command = Command {
         name: "try",
@@ -180,7 +185,8 @@ mod tests {
         let said = |given: &[&str]| words(given).err().unwrap_or_default();
         assert!(said(&[]).contains("it needs FILE.."));
         assert!(said(&["a", "b", "c"]).contains("and no more"));
-        assert!(said(&["a", "--jsn"]).contains("no option '--jsn'"));
+        assert!(said(&["a", "--jsn"]).contains("no option '--jsn'; did you mean --json? 'insc"));
+        assert!(said(&["a", "--wholly"]).contains("no option '--wholly'; 'insc"));
         assert!(said(&["a", "-json"]).contains("the option is --json"));
         assert!(said(&["a", "--json=1"]).contains("takes no value"));
         assert!(said(&["a", "--limit"]).contains("needs N"));

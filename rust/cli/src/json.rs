@@ -1,5 +1,6 @@
 //! JSON, written.
 
+use super::show;
 use std::fmt::{Display, Write};
 
 /// An object that is being written, its fields in the order in which they are given.
@@ -63,7 +64,7 @@ impl Object {
 /// A float as JSON; null for what JSON has no number for.
 pub(crate) fn float(number: f64) -> String {
     match number.is_finite() {
-        true => number.to_string(),
+        true => show::float(number),
         false => String::from("null"),
     }
 }
@@ -106,12 +107,13 @@ mod tests {
             .text("a\"", "b\\\n\u{1}\u{7f}é")
             .number("n", u64::MAX)
             .number("i", -1_i32);
-        object
-            .object("o", inner)
-            .list("l", [quoted("x"), float(0.001), float(f64::NAN)]);
+        object.object("o", inner).list(
+            "l",
+            [quoted("x"), float(0.001), float(1e300), float(f64::NAN)],
+        );
         assert_eq!(
             object.finish(),
-            r#"{"a\"":"b\\\n\u0001\u007fé","n":18446744073709551615,"i":-1,"o":{"is":true},"l":["x",0.001,null]}"#
+            r#"{"a\"":"b\\\n\u0001\u007fé","n":18446744073709551615,"i":-1,"o":{"is":true},"l":["x",0.001,1e300,null]}"#
         );
         assert_eq!(Object::new().finish(), "{}");
     }

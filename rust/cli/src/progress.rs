@@ -15,6 +15,9 @@ use std::{
 /// Before this nothing is shown.
 const PATIENCE: Duration = Duration::from_secs(1);
 
+/// How many characters a line is taken to have where the terminal does not say so.
+const USUAL_WIDTH: usize = 80;
+
 /// How often the line is written anew.
 const PAUSE: Duration = Duration::from_millis(250);
 
@@ -78,7 +81,9 @@ fn watch(state: &State, what: &str, total: Option<u64>) {
     while !state.over.load(Ordering::Relaxed) {
         let taken = begun.elapsed();
         if taken >= PATIENCE {
+            let width = os::width(&io::stderr());
             let line = line(what, state.done.load(Ordering::Relaxed), total, taken);
+            let line = fitted(&line, width.unwrap_or(USUAL_WIDTH));
             let _ = write!(io::stderr(), "\r\x1b[K{line}");
             shown = true;
         }
@@ -101,9 +106,49 @@ fn line(what: &str, done: u64, total: Option<u64>, taken: Duration) -> String {
     }
 }
 
+/// How many places of a line a character takes, at most.
+fn places(c: char) -> usize {
+    match c.is_ascii() {
+        true => 1,
+        false => 2,
+    }
+}
+
+/// A line that stays within this width, so that it can be written over: where it is longer, its beginning goes, since how far
+/// the work has come stands at its end. The last place of a line stays free, where some terminals go to the next line.
+fn fitted(line: &str, width: usize) -> String {
+    let room = width.saturating_sub(1);
+    if line.chars().map(places).sum::<usize>() <= room {
+        return line.to_string();
+    }
+    let dots = room.min(3);
+    let mut left = room.saturating_sub(dots);
+    let mut kept: Vec<char> = Vec::new();
+    for c in line.chars().rev() {
+        match left.checked_sub(places(c)) {
+            Some(rest) => left = rest,
+            None => break,
+        }
+        kept.push(c);
+    }
+    let end: String = kept.into_iter().rev().collect();
+    format!("{}{end}", ".".repeat(dots))
+}
+
 #[cfg(test)]
 mod tests {
     use super::*;
+
+    #[test]
+    fn the_line_fits() {
+        let line = "points of a/long/way/to/survey.las: 25 %, 2 s";
+        assert_eq!(fitted(line, 46), line);
+        assert_eq!(fitted(line, 20), "...y.las: 25 %, 2 s");
+        for width in 0..60 {
+            assert!(fitted(line, width).chars().count() <= width.saturating_sub(1));
+        }
+        assert_eq!(fitted("測量測量.las: 25 %", 18), "...測量.las: 25 %");
+    }
 
     #[test]
     fn the_line() {

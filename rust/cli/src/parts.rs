@@ -2,7 +2,7 @@
 
 use super::{
     args::Words,
-    input::{self, Input},
+    input::{Files, Name},
     json::Object,
     output::Output,
     Command, Failure, Status,
@@ -20,7 +20,7 @@ Each line is a part: its kind, its first byte and how many bytes it has, in the 
 file, byte after byte; what belongs to no other part is a gap. A file that is refused has one line on the standard
 output: 'refused' and number, value and record, and words on the standard error.
 
-With several files each list is headed by 'file' and its name.
+With several files each list is headed by 'file' and its name. Of a folder the .las files are listed, by name.
 
 Example:
   $ inscjarol parts two-points.las
@@ -33,26 +33,21 @@ Example:
 };
 
 fn run(words: &Words, out: &mut Output) -> Result<Status, Failure> {
-    let several = words.files.len() > 1;
-    let mut worst = Status::Done;
-    for name in &words.files {
-        let shown = input::shown(name);
-        let status = match Input::open(name) {
-            Err(error) => out.failed(&shown, &input::words(&error))?,
-            Ok(input) => {
-                if several && !out.json {
-                    out.line(&format!("file {shown}"))?;
-                }
-                list(&shown, input.bytes(), out)?
-            }
-        };
-        worst = worst.max(status);
+    let files = Files::of(&words.files);
+    let worst = files.each(out, |name, bytes, out| {
+        if files.several() && !out.json {
+            out.line(&format!("file {name}"))?;
+        }
+        list(name, bytes, out)
+    })?;
+    if let Some(left_out) = files.left_out() {
+        out.tell(&left_out);
     }
     Ok(worst)
 }
 
 /// Lists the parts of one file.
-fn list(name: &str, bytes: &[u8], out: &mut Output) -> Result<Status, Failure> {
+fn list(name: &Name, bytes: &[u8], out: &mut Output) -> Result<Status, Failure> {
     let file = match File::check(bytes) {
         Ok(file) => file,
         Err(refusal) => {
@@ -76,11 +71,8 @@ fn list(name: &str, bytes: &[u8], out: &mut Output) -> Result<Status, Failure> {
                 .number("length", part.len);
             object.finish()
         });
-        let mut object = Object::new();
-        object
-            .text("file", name)
-            .bool("accepted", true)
-            .list("parts", parts);
+        let mut object = name.object();
+        object.bool("accepted", true).list("parts", parts);
         out.line(&object.finish())?;
         return Ok(Status::Done);
     }

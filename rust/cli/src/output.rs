@@ -1,6 +1,6 @@
 //! Where a command writes: the standard output, locked and buffered, and sentences on the standard error.
 
-use super::{json::Object, Failure, Status};
+use super::{input::Name, json::Object, show::plain, Failure, Status};
 use inscjarol::Refusal;
 use std::io::{self, BufWriter, StdoutLock, Write};
 
@@ -35,46 +35,37 @@ impl Output {
         Ok(self.to.flush()?)
     }
 
-    /// Says a sentence on the standard error, after all that was written; where it cannot be said, nobody listens.
+    /// Says a sentence on the standard error, after all that was written; where it cannot be said, nobody listens. Whatever
+    /// stands in it, it steers no terminal.
     pub(crate) fn tell(&mut self, words: &str) {
         let _ = self.to.flush();
-        let _ = writeln!(io::stderr(), "inscjarol: {words}");
+        let lines: Vec<String> = words.lines().map(plain).collect();
+        let _ = writeln!(io::stderr(), "inscjarol: {}", lines.join("\n"));
     }
 
     /// Says that a file could not be read or written.
-    pub(crate) fn failed(&mut self, name: &str, words: &str) -> Result<Status, Failure> {
+    pub(crate) fn failed(&mut self, name: &Name, words: &str) -> Result<Status, Failure> {
         if self.json {
-            let mut object = Object::new();
-            object.text("file", name).text("error", words);
-            self.line(&object.finish())?;
+            self.line(&name.object().text("error", words).finish())?;
         }
         self.tell(&format!("{name}: {words}"));
         Ok(Status::Failed)
     }
 
     /// Says that a file was refused: in JSON on the standard output, else in words on the standard error.
-    pub(crate) fn refused(&mut self, name: &str, refusal: &Refusal) -> Result<Status, Failure> {
+    pub(crate) fn refused(&mut self, name: &Name, refusal: &Refusal) -> Result<Status, Failure> {
         if self.json {
-            let mut object = Object::new();
-            object.text("file", name).bool("accepted", false);
-            object.object("refusal", refusal_object(refusal));
+            let mut object = name.object();
+            object
+                .bool("accepted", false)
+                .object("refusal", refusal_object(refusal));
             self.line(&object.finish())?;
         } else {
-            self.tell(&format!("{name}: {}", refused(refusal)));
+            // Its numbers and its words.
+            self.tell(&format!("{name}: {refusal:?}"));
         }
         Ok(Status::Refused)
     }
-}
-
-/// A refusal as it is told: its numbers and its words.
-pub(crate) fn refused(refusal: &Refusal) -> String {
-    format!(
-        "refused {} {} {} ({}): {refusal}",
-        refusal.number(),
-        refusal.value(),
-        refusal.record(),
-        refusal.name()
-    )
 }
 
 /// A refusal for programs.

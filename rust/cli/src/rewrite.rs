@@ -1,34 +1,41 @@
 //! `inscjarol rewrite`.
 
 use super::{
-    args::Words,
-    input::{self, Input},
-    json::Object,
+    args::{Opt, Words},
+    input::{self, Input, Name},
     output::Output,
     progress::Progress,
-    replace::Replacement,
+    replace::{Replacement, Target},
     show::counted,
     Command, Failure, Status,
 };
 use inscjarol::{File, Refusal};
-use std::{ffi::OsStr, io, path::Path};
+use std::{io, path::Path};
 
 pub(crate) const COMMAND: Command = Command {
     name: "rewrite",
     operands: "IN OUT",
     count: (2, 2),
     summary: "write a file anew from what is read of it, and only if all went well",
-    options: &[],
+    options: &[Opt {
+        name: "force",
+        value: None,
+        help: "replace an OUT that is there",
+    }],
     help: "\
 Header, VLRs, points and EVLRs of OUT are each written from what was read of IN, and gaps are copied. The bytes are the
 same, except that an EVLR start and count of which one is zero become two zeros; that is said where it happens.
 
-OUT is written as a temporary file in its own folder, and takes its name when all of it is on the disk: there is never
-a half-written OUT. A refused IN, a full disk or an interrupt leave the OUT that was there, or none. So IN and OUT may
-be the same file.
+An OUT that is there is refused, unless it is IN itself or --force is given; one that is read-only is refused always.
+What is replaced keeps its owner and its mode where the system lets us, and an OUT that is a link stays one: the file
+that it leads to is written.
 
-Example:
-  inscjarol rewrite survey.las clean/survey.las",
+OUT gets its name when all of it is on the disk: there is never a half-written OUT. A refused IN, a full disk or an
+interrupt leave the OUT that was there, or none, and nothing else. So IN and OUT may be the same file.
+
+Examples:
+  inscjarol rewrite survey.las clean/survey.las
+  inscjarol rewrite survey.las survey.las",
     run,
 };
 
@@ -51,7 +58,20 @@ fn run(words: &Words, out: &mut Output) -> Result<Status, Failure> {
             "rewrite: OUT has to be a file: what is written to the standard output cannot be taken back",
         )));
     }
-    let (name, target) = (input::shown(from), input::shown(to));
+    let (name, target) = (Name::new(from), Name::new(to));
+    // Whether OUT may be written is asked before IN is read.
+    let id = match input::id(from) {
+        Ok(id) => id,
+        Err(error) => return out.failed(&name, &input::words(&error)),
+    };
+    let place = Target::find(Path::new(to)).and_then(|place| {
+        place.judge(id, words.has("force"))?;
+        Ok(place)
+    });
+    let place = match place {
+        Ok(place) => place,
+        Err(error) => return out.failed(&target, &unwritten(&error)),
+    };
     let input = match Input::open(from) {
         Ok(input) => input,
         Err(error) => return out.failed(&name, &input::words(&error)),
@@ -63,48 +83,61 @@ fn run(words: &Words, out: &mut Output) -> Result<Status, Failure> {
     // One call writes the whole file, and it says nothing before it ends: so only the time is shown. Record by record the tool
     // could count, but then the bytes would be its own putting together, and no longer those of the call that is proved.
     let progress = Progress::new(format!("rewriting {name}"), None);
-    let written = rewrite(&file, to);
+    let saved = saved(&file, place);
+    // Its thread has to be gone when the file takes its place.
     drop(progress);
+    let written = saved.and_then(|(replacement, same)| {
+        replacement.finish().map_err(Unwritten::Out)?;
+        Ok(same)
+    });
     match written {
         Ok(same) => {
             told(&name, &target, input.bytes().len(), same, out)?;
             Ok(Status::Done)
         }
         Err(Unwritten::Refused(refusal)) => out.refused(&name, &refusal),
-        Err(Unwritten::Out(error)) => {
-            let words = match error.kind() {
-                io::ErrorKind::PermissionDenied => {
-                    String::from("it may not be written (permission denied)")
-                }
-                io::ErrorKind::NotFound => String::from("there is no such folder"),
-                _ => error.to_string(),
-            };
-            out.failed(&target, &words)
-        }
+        Err(Unwritten::Out(error)) => out.failed(&target, &unwritten(&error)),
     }
 }
 
-/// Rewrites a file, and answers whether the EVLR pair has the bytes that it had.
-fn rewrite(file: &File<'_>, to: &OsStr) -> Result<bool, Unwritten> {
+/// Why a file cannot be written, as it is told.
+fn unwritten(error: &io::Error) -> String {
+    match error.kind() {
+        io::ErrorKind::PermissionDenied => {
+            String::from("it may not be written (permission denied)")
+        }
+        io::ErrorKind::NotFound => String::from("there is no such folder"),
+        _ => error.to_string(),
+    }
+}
+
+/// Writes a file anew to the disk, and answers it with whether the EVLR pair has the bytes that it had.
+fn saved(file: &File<'_>, place: Target) -> Result<(Replacement, bool), Unwritten> {
     let len = file.bytes().len();
-    let mut replacement = Replacement::new(Path::new(to), len as u64).map_err(Unwritten::Out)?;
+    let mut replacement = Replacement::new(place, len as u64).map_err(Unwritten::Out)?;
     let mut map = replacement.map(len).map_err(Unwritten::Out)?;
-    file.rewrite(map.bytes_mut()).map_err(Unwritten::Refused)?;
-    let same = map.bytes_mut().get(EVLR_PAIR) == file.bytes().get(EVLR_PAIR);
+    file.rewrite(&mut map).map_err(Unwritten::Refused)?;
+    let same = map.get(EVLR_PAIR) == file.bytes().get(EVLR_PAIR);
     drop(map);
-    replacement.finish().map_err(Unwritten::Out)?;
-    Ok(same)
+    replacement.save().map_err(Unwritten::Out)?;
+    Ok((replacement, same))
 }
 
 /// Tells what was written.
-fn told(name: &str, target: &str, len: usize, same: bool, out: &mut Output) -> Result<(), Failure> {
+fn told(
+    name: &Name,
+    target: &Name,
+    len: usize,
+    same: bool,
+    out: &mut Output,
+) -> Result<(), Failure> {
     if out.json {
-        let mut object = Object::new();
+        let mut object = name.object();
         object
-            .text("file", name)
             .bool("accepted", true)
-            .text("out", target);
-        object.number("bytes", len as u64).bool("same_bytes", same);
+            .text("out", target.exact())
+            .number("bytes", len as u64)
+            .bool("same_bytes", same);
         return out.line(&object.finish());
     }
     let bytes = counted(len as u64, "byte");

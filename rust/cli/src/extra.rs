@@ -62,6 +62,19 @@ impl Kind {
         }
     }
 
+    /// The least and the largest of its numbers, where these are whole.
+    pub(crate) fn range(self) -> Option<(i128, i128)> {
+        let values = |size: usize| 1_i128.checked_shl(u32::try_from(size).ok()?.checked_mul(8)?);
+        match self {
+            Kind::Unsigned(size) => Some((0, values(size)?.checked_sub(1)?)),
+            Kind::Signed(size) => {
+                let half = values(size)? / 2;
+                Some((half.checked_neg()?, half.checked_sub(1)?))
+            }
+            Kind::Bytes(_) | Kind::Float | Kind::Double => None,
+        }
+    }
+
     /// The kind in words.
     pub(crate) fn words(self) -> String {
         match self {
@@ -74,35 +87,25 @@ impl Kind {
     }
 }
 
-/// What an extra field has in a point.
-#[derive(Clone, Debug, PartialEq)]
-pub(crate) enum Value {
-    Whole(i128),
-    Real(f64),
-    Bytes(Vec<u8>),
+impl Extra {
+    /// The field's bytes; none where the point's extra bytes end before it.
+    pub(crate) fn bytes<'p>(&self, extra_bytes: &'p [u8]) -> Option<&'p [u8]> {
+        let end = self.start.checked_add(self.kind.size())?;
+        extra_bytes.get(self.start..end)
+    }
 }
 
-impl Extra {
-    /// The field's value, before scale and offset; none where the point's extra bytes end before it.
-    pub(crate) fn value(&self, extra_bytes: &[u8]) -> Option<Value> {
-        let end = self.start.checked_add(self.kind.size())?;
-        let bytes = extra_bytes.get(self.start..end)?;
-        let mut wide = [0; 8];
-        for (to, &from) in wide.iter_mut().zip(bytes) {
-            *to = from;
-        }
-        let number = u64::from_le_bytes(wide);
-        Some(match self.kind {
-            Kind::Bytes(_) => Value::Bytes(bytes.to_vec()),
-            Kind::Unsigned(_) => Value::Whole(i128::from(number)),
-            Kind::Signed(size) => {
-                let above = 64_u32.saturating_sub(u32::try_from(size).ok()?.saturating_mul(8));
-                Value::Whole(i128::from((number << above) as i64 >> above))
-            }
-            Kind::Float => Value::Real(f64::from(f32::from_bits(number as u32))),
-            Kind::Double => Value::Real(f64::from_bits(number)),
-        })
-    }
+/// The number that up to eight bytes are, the lowest first.
+pub(crate) fn number(bytes: &[u8]) -> u64 {
+    let digits = bytes.iter().rev();
+    digits.fold(0, |number, &byte| number << 8 | u64::from(byte))
+}
+
+/// The number with a sign that up to eight bytes are, the lowest first.
+pub(crate) fn signed_number(bytes: &[u8]) -> i64 {
+    let above = 64_usize.saturating_sub(bytes.len().saturating_mul(8)) as u32;
+    let at_the_top = number(bytes).checked_shl(above).unwrap_or(0);
+    (at_the_top as i64).checked_shr(above).unwrap_or(0)
 }
 
 /// The extra fields that a file describes, up to the first of a kind that is not known, whose length thus isn't either.
@@ -171,27 +174,31 @@ mod tests {
         assert_eq!((fields[0].scale, fields[2].scale), (Some(0.01), None));
         let mut extra = vec![0xfe, 0xff, 1, 2, 3];
         extra.extend(1.5_f32.to_le_bytes());
-        assert_eq!(fields[0].value(&extra), Some(Value::Whole(-2)));
-        assert_eq!(fields[1].value(&extra), Some(Value::Bytes(vec![1, 2, 3])));
-        assert_eq!(fields[2].value(&extra), Some(Value::Real(1.5)));
-        assert_eq!(fields[2].value(&extra[..8]), None);
+        assert_eq!(fields[0].bytes(&extra).map(signed_number), Some(-2));
+        assert_eq!(fields[1].bytes(&extra), Some(&[1, 2, 3][..]));
+        let depth = fields[2].bytes(&extra).map(number);
+        assert_eq!(depth, Some(u64::from(1.5_f32.to_bits())));
+        assert_eq!(fields[2].bytes(&extra[..8]), None);
     }
 
     #[test]
     fn every_width() {
-        for (data_type, size, all) in [
+        for (data_type, size, most) in [
             (1, 1, 0xff),
-            (2, 1, -1),
             (3, 2, 0xffff),
-            (4, 2, -1),
             (5, 4, 0xffff_ffff),
-            (6, 4, -1),
-            (7, 8, i128::from(u64::MAX)),
-            (8, 8, -1),
+            (7, 8, u64::MAX),
         ] {
             let field = &described_by(&description(data_type, 0, "n", 0.0))[0];
             assert_eq!(field.kind.size(), size);
-            assert_eq!(field.value(&[0xff; 8]), Some(Value::Whole(all)));
+            assert_eq!(field.bytes(&[0xff; 8]).map(number), Some(most));
+            assert_eq!(field.kind.range(), Some((0, i128::from(most))));
+            let field = &described_by(&description(data_type + 1, 0, "n", 0.0))[0];
+            assert_eq!(field.kind.size(), size);
+            assert_eq!(field.bytes(&[0xff; 8]).map(signed_number), Some(-1));
+            let half = i128::from(most / 2);
+            assert_eq!(field.kind.range(), Some((-half - 1, half)));
         }
+        assert_eq!(signed_number(&[]), 0);
     }
 }

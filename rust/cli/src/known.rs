@@ -1,6 +1,6 @@
 //! What the standard says of numbers and records in a header.
 
-use super::extra;
+use super::{extra, show::float};
 use inscjarol::{text, Vlr};
 
 /// The bits of global encoding that the standard names, in words.
@@ -152,10 +152,10 @@ fn extra_bytes(vlr: &Vlr<'_>) -> String {
         .map(|field| {
             let mut words = format!("{} ({}", field.name, field.kind.words());
             if let Some(scale) = field.scale {
-                words.push_str(&format!(", steps of {scale}"));
+                words.push_str(&format!(", steps of {}", float(scale)));
             }
             if let Some(offset) = field.offset {
-                words.push_str(&format!(", from {offset}"));
+                words.push_str(&format!(", from {}", float(offset)));
             }
             words.push(')');
             if !field.about.is_empty() {

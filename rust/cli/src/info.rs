@@ -2,11 +2,11 @@
 
 use super::{
     args::Words,
-    input,
+    input::{Files, Name},
     json::{self, Object},
     known,
     output::Output,
-    show::{counted, grouped, plain, plain_or_none},
+    show::{counted, float, floats, grouped, plain, plain_or_none},
     Command, Failure, Status,
 };
 use inscjarol::{File, PartKind, Vlr};
@@ -23,6 +23,8 @@ and bounds are the header's word, not worked out from the points. Then come the 
 record id, description, length and first byte, and what it is where that is known; and the gaps, which are bytes that
 belong to no part.
 
+Each file stands under its name. Of a folder the .las files are shown, in the order of their names.
+
 Examples:
   inscjarol info survey.las
   inscjarol info --json *.las",
@@ -30,13 +32,30 @@ Examples:
 };
 
 fn run(words: &Words, out: &mut Output) -> Result<Status, Failure> {
-    input::each(&words.files, out, |name, file, out| {
-        match out.json {
-            true => out.line(&for_programs(name, file))?,
-            false => for_people(name, file, out)?,
+    let files = Files::of(&words.files);
+    let mut first = true;
+    let worst = files.each(out, |name, bytes, out| {
+        let file = match File::check(bytes) {
+            Ok(file) => file,
+            Err(refusal) => return out.refused(name, &refusal),
+        };
+        if out.json {
+            out.line(&for_programs(name, &file))?;
+            return Ok(Status::Done);
         }
+        // Each file under its name, apart from the one before.
+        if !first {
+            out.line("")?;
+        }
+        first = false;
+        out.line(&name.to_string())?;
+        for_people(&file, out)?;
         Ok(Status::Done)
-    })
+    })?;
+    if let Some(left_out) = files.left_out() {
+        out.tell(&left_out);
+    }
+    Ok(worst)
 }
 
 /// A VLR or EVLR and where it is.
@@ -89,7 +108,7 @@ fn format_words(file: &File<'_>) -> String {
     )
 }
 
-fn for_people(name: &str, file: &File<'_>, out: &mut Output) -> Result<(), Failure> {
+fn for_people(file: &File<'_>, out: &mut Output) -> Result<(), Failure> {
     let header = file.header();
     let mut say = |what: &str, words: String| out.line(&format!("  {what:<22}{words}"));
 
@@ -101,7 +120,6 @@ fn for_people(name: &str, file: &File<'_>, out: &mut Output) -> Result<(), Failu
         .map(|(number, count): (u8, u64)| format!("{number}: {}", grouped(count)))
         .collect();
 
-    say("file", name.to_string())?;
     say("bytes", grouped(file.bytes().len() as u64))?;
     say("LAS version", header.version.to_string())?;
     say("file source id", header.file_source_id.to_string())?;
@@ -145,23 +163,14 @@ fn for_people(name: &str, file: &File<'_>, out: &mut Output) -> Result<(), Failu
         ),
     )?;
     say("points by return", plain_or_none(&by_return.join(", ")))?;
-    say(
-        "scale x y z",
-        format!(
-            "{} {} {}",
-            header.x_scale_factor, header.y_scale_factor, header.z_scale_factor
-        ),
-    )?;
-    say(
-        "offset x y z",
-        format!(
-            "{} {} {}",
-            header.x_offset, header.y_offset, header.z_offset
-        ),
-    )?;
-    say("x from, to", format!("{} {}", header.min_x, header.max_x))?;
-    say("y from, to", format!("{} {}", header.min_y, header.max_y))?;
-    say("z from, to", format!("{} {}", header.min_z, header.max_z))?;
+    let (scale, offset) = scale_and_offset(file);
+    let bounds = header.bounds();
+    say("scale x y z", floats(scale))?;
+    say("offset x y z", floats(offset))?;
+    for ((axis, from), to) in ["x", "y", "z"].iter().zip(bounds.min).zip(bounds.max) {
+        let words = format!("{} {}", float(from), float(to));
+        say(&format!("{axis} from, to"), words)?;
+    }
     if let Some(start) = header
         .start_of_waveform_data_packet_record
         .filter(|start| *start > 0)
@@ -200,13 +209,26 @@ fn for_people(name: &str, file: &File<'_>, out: &mut Output) -> Result<(), Failu
     Ok(())
 }
 
+/// What a step is along each axis, and where steps count from.
+fn scale_and_offset(file: &File<'_>) -> ([f64; 3], [f64; 3]) {
+    let header = file.header();
+    (
+        [
+            header.x_scale_factor,
+            header.y_scale_factor,
+            header.z_scale_factor,
+        ],
+        [header.x_offset, header.y_offset, header.z_offset],
+    )
+}
+
 /// A list of numbers as JSON.
 fn numbers(numbers: &[u64]) -> Vec<String> {
     numbers.iter().map(u64::to_string).collect()
 }
 
 /// A list of floats as JSON.
-fn floats(floats: [f64; 3]) -> Vec<String> {
+fn listed(floats: [f64; 3]) -> Vec<String> {
     floats.into_iter().map(json::float).collect()
 }
 
@@ -220,15 +242,16 @@ fn records(records: &[Placed<'_>]) -> Vec<String> {
             .text("description", &vlr.about())
             .number("start", *start)
             .number("data_length", vlr.data.len() as u64);
-        if let Some(meaning) = known::meaning(vlr) {
-            object.text("meaning", &meaning);
-        }
+        match known::meaning(vlr) {
+            Some(meaning) => object.text("meaning", &meaning),
+            None => object.raw("meaning", "null"),
+        };
         object.finish()
     };
     records.iter().map(record).collect()
 }
 
-fn for_programs(name: &str, file: &File<'_>) -> String {
+fn for_programs(name: &Name, file: &File<'_>) -> String {
     let header = file.header();
     let gaps = file
         .parts()
@@ -238,9 +261,10 @@ fn for_programs(name: &str, file: &File<'_>) -> String {
             object.number("start", gap.start).number("length", gap.len);
             object.finish()
         });
-    let mut object = Object::new();
+    let (scale, offset) = scale_and_offset(file);
+    let bounds = header.bounds();
+    let mut object = name.object();
     object
-        .text("file", name)
         .bool("accepted", true)
         .number("bytes", file.bytes().len() as u64)
         .text("version", &header.version.to_string())
@@ -263,20 +287,10 @@ fn for_programs(name: &str, file: &File<'_>) -> String {
         .number("extra_bytes", file.format().extra_bytes)
         .number("points", file.point_count())
         .list("points_by_return", numbers(&header.points_by_return()))
-        .list(
-            "scale",
-            floats([
-                header.x_scale_factor,
-                header.y_scale_factor,
-                header.z_scale_factor,
-            ]),
-        )
-        .list(
-            "offset",
-            floats([header.x_offset, header.y_offset, header.z_offset]),
-        )
-        .list("min", floats([header.min_x, header.min_y, header.min_z]))
-        .list("max", floats([header.max_x, header.max_y, header.max_z]));
+        .list("scale", listed(scale))
+        .list("offset", listed(offset))
+        .list("min", listed(bounds.min))
+        .list("max", listed(bounds.max));
     match header.start_of_waveform_data_packet_record {
         Some(start) => object.number("waveform_start", start),
         None => object.raw("waveform_start", "null"),

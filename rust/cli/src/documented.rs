@@ -1,0 +1,211 @@
+//! What `--json` prints, field by field; a test holds it to what is printed.
+
+use super::fields;
+use std::fmt::Write;
+
+/// The fields of an object: where each is, its type, and what it is.
+type Fields = &'static [(&'static str, &'static str, &'static str)];
+
+/// What stands before the fields.
+const BEGIN: &str = "\
+inscjarol help json: what --json prints
+
+Each line of the standard output is an object of its own, in the order of the files. Its fields come in the order in
+which they are told here. Numbers are whole but for scale, offset, min, max and those of points; counts may be as large
+as 2^64 - 1. Texts are UTF-8: bytes of a file or of a name that are none are shown as replacement characters. A.B is the
+field B of the object A, and A[].B that of each object in the list A. Later versions may add fields.
+";
+
+const NAME: (&str, &str, &str) = (
+    "file",
+    "text",
+    "the name as it was given, or 'standard input'",
+);
+const ACCEPTED: (&str, &str, &str) = ("accepted", "true", "it is a whole LAS file");
+const NOT_ACCEPTED: (&str, &str, &str) = ("accepted", "false", "it is none");
+const NUMBER: (&str, &str, &str) = (
+    "refusal.number",
+    "number",
+    "1 to 27, by the library's table",
+);
+const KIND: (&str, &str, &str) = ("refusal.name", "text", "what the table calls it");
+const VALUE: (&str, &str, &str) = (
+    "refusal.value",
+    "number",
+    "the number that was found or is needed",
+);
+const RECORD: (&str, &str, &str) = (
+    "refusal.record",
+    "number",
+    "the VLR or EVLR, counted from 1, or 0",
+);
+const WORDS: (&str, &str, &str) = ("refusal.words", "text", "a sentence");
+
+/// Every object that there is, with what it is printed for.
+const OBJECTS: &[(&str, Fields)] = &[
+    (
+        "every command, for a file that cannot be read or written:",
+        &[NAME, ("error", "text", "why, in words")],
+    ),
+    (
+        "check, for a file that is accepted:",
+        &[
+            NAME,
+            ACCEPTED,
+            ("bytes", "number", "bytes of the file"),
+            ("records", "number", "VLRs and EVLRs together"),
+            ("version", "text", "of LAS, as 1.4"),
+            ("format", "number", "point format, 0 to 10"),
+            ("record_length", "number", "bytes of a point"),
+            ("points", "number", "points"),
+            ("vlrs", "number", "VLRs"),
+            ("evlrs", "number", "EVLRs"),
+        ],
+    ),
+    (
+        "check, for a file that is refused:",
+        &[
+            NAME,
+            NOT_ACCEPTED,
+            (
+                "bytes",
+                "number",
+                "bytes that were there; of a stream, that were read",
+            ),
+            ("records", "number", "VLRs and EVLRs that were found whole"),
+            NUMBER,
+            KIND,
+            VALUE,
+            RECORD,
+            WORDS,
+        ],
+    ),
+    (
+        "parts, info, points and rewrite, for a file that is refused:",
+        &[NAME, NOT_ACCEPTED, NUMBER, KIND, VALUE, RECORD, WORDS],
+    ),
+    (
+        "parts, for a file that is accepted:",
+        &[
+            NAME,
+            ACCEPTED,
+            ("parts[].kind", "text", "header, vlr, gap, points or evlr"),
+            ("parts[].start", "number", "first byte"),
+            ("parts[].length", "number", "bytes"),
+        ],
+    ),
+    (
+        "info, for a file that is accepted:",
+        &[
+            NAME,
+            ACCEPTED,
+            ("bytes", "number", "bytes of the file"),
+            ("version", "text", "of LAS, as 1.4"),
+            ("file_source_id", "number", "as in the header"),
+            ("global_encoding", "number", "its bits, as in the header"),
+            ("project_id", "text or null", "GUID; null where it is zero"),
+            ("system_identifier", "text", "as in the header"),
+            ("generating_software", "text", "as in the header"),
+            ("creation_year", "number", "as in the header"),
+            ("creation_day_of_year", "number", "as in the header"),
+            ("header_size", "number", "bytes, with padding"),
+            ("padding", "number", "bytes of padding"),
+            ("point_offset", "number", "first byte of the points"),
+            ("format", "number", "point format, 0 to 10"),
+            ("record_length", "number", "bytes of a point"),
+            ("extra_bytes", "number", "how many of them are extra"),
+            ("points", "number", "points"),
+            ("points_by_return[]", "number", "15, the first return first"),
+            (
+                "scale[]",
+                "number or null",
+                "of x, y and z; null for what is no number",
+            ),
+            ("offset[]", "number or null", "of x, y and z"),
+            ("min[]", "number or null", "least x, y and z, by the header"),
+            (
+                "max[]",
+                "number or null",
+                "largest x, y and z, by the header",
+            ),
+            (
+                "waveform_start",
+                "number or null",
+                "first byte; null before LAS 1.3",
+            ),
+            ("vlrs[].user_id", "text", "who defined it"),
+            ("vlrs[].record_id", "number", "which of the user's it is"),
+            ("vlrs[].description", "text", "as in the file"),
+            ("vlrs[].start", "number", "first byte, of its head"),
+            ("vlrs[].data_length", "number", "bytes of data"),
+            (
+                "vlrs[].meaning",
+                "text or null",
+                "what it is, where that is known",
+            ),
+            ("evlrs[].user_id", "text", "as for vlrs"),
+            ("evlrs[].record_id", "number", ""),
+            ("evlrs[].description", "text", ""),
+            ("evlrs[].start", "number", ""),
+            ("evlrs[].data_length", "number", ""),
+            ("evlrs[].meaning", "text or null", ""),
+            (
+                "gaps[].start",
+                "number",
+                "first byte that belongs to no part",
+            ),
+            ("gaps[].length", "number", "bytes"),
+        ],
+    ),
+    (
+        "rewrite, for a file that was written:",
+        &[
+            NAME,
+            ACCEPTED,
+            ("out", "text", "the name of OUT as it was given"),
+            ("bytes", "number", "bytes that were written"),
+            (
+                "same_bytes",
+                "true or false",
+                "whether they are those of IN",
+            ),
+        ],
+    ),
+];
+
+/// All of it.
+pub(crate) fn text() -> String {
+    let mut text = String::from(BEGIN);
+    let line = |text: &mut String, path: &str, of: &str, words: &str| {
+        let line = format!("  {path:<24}{of:<16}{words}");
+        let _ = writeln!(text, "{}", line.trim_end());
+    };
+    for (heading, fields) in OBJECTS {
+        let _ = writeln!(text, "\n{heading}");
+        for (path, of, words) in *fields {
+            line(&mut text, path, of, words);
+        }
+    }
+    text.push_str(
+        "\npoints, for each point, the fields that were chosen; null where the point has none:\n",
+    );
+    for (name, of, words) in fields::documented() {
+        line(&mut text, name, of, &words);
+    }
+    text.push_str(
+        "\nand the extra bytes that the file describes: a number or null, or a text of hexadecimal digits where they are of no\n\
+         kind that is known.\n",
+    );
+    text
+}
+
+#[cfg(test)]
+mod tests {
+    use super::*;
+
+    #[test]
+    fn it_fits_a_page() {
+        let longest = text().lines().map(|line| line.chars().count()).max();
+        assert!(longest <= Some(120), "{longest:?}");
+    }
+}

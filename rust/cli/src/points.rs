@@ -1,0 +1,138 @@
+//! `inscjarol points`.
+
+use super::{
+    args::{Opt, Words},
+    extra,
+    fields::{Choice, Row},
+    input::{self, Input, Name},
+    output::Output,
+    progress::Progress,
+    Command, Failure, Status,
+};
+use inscjarol::File;
+
+pub(crate) const COMMAND: Command = Command {
+    name: "points",
+    operands: "FILE",
+    count: (1, 1),
+    summary: "write the points of a file as CSV, or as a line of JSON each",
+    options: &[
+        Opt {
+            name: "fields",
+            value: Some("LIST"),
+            help: "which fields, as x,y,z,intensity; 'all' for all that the file has",
+        },
+        Opt {
+            name: "raw",
+            value: None,
+            help: "numbers as they are stored, without scale and offset",
+        },
+        Opt {
+            name: "skip",
+            value: Some("N"),
+            help: "leave out the first N points",
+        },
+        Opt {
+            name: "limit",
+            value: Some("N"),
+            help: "write at most N points",
+        },
+    ],
+    help: "\
+The first line names the fields, and each point has a line. Coordinates are scaled by the header and exact: they have as
+many decimals as the header's scale and offset. A field that the file's points do not have is left empty.
+
+Numbers of one field have one form: as many decimals as its scale and offset have, or for floats the shortest decimal
+that reads back.
+
+Fields, in letters of either size:
+{fields}
+and the extra bytes by the names that the file gives them; a name that is there already gets a number at its end, as in
+intensity_2.
+
+In formats 0 to 5 overlap is read from the class: 12, or 28, which the standard does not count.
+
+Examples:
+  inscjarol points survey.las > survey.csv
+  inscjarol points --fields x,y,z,classification --limit 10 survey.las
+  inscjarol points --raw --json survey.las | head",
+    run,
+};
+
+/// How many bytes are gathered before they are written.
+const GATHERED: usize = 1 << 16;
+
+fn run(words: &Words, out: &mut Output) -> Result<Status, Failure> {
+    let asked = Asked::new(words)?;
+    let name = match words.files.first() {
+        Some(name) => name,
+        None => return Ok(Status::Done),
+    };
+    let shown = Name::new(name);
+    let input = match Input::open(name) {
+        Ok(input) => input,
+        Err(error) => return out.failed(&shown, &input::words(&error)),
+    };
+    match File::check(input.bytes()) {
+        Ok(file) => write(&asked, &shown, &file, out),
+        Err(refusal) => out.refused(&shown, &refusal),
+    }
+}
+
+/// What was asked for, which is looked through before the file is.
+struct Asked {
+    choice: Choice,
+    raw: bool,
+    skip: u64,
+    limit: u64,
+}
+
+impl Asked {
+    fn new(words: &Words) -> Result<Asked, Failure> {
+        let fields = words.value("fields").map(|fields| fields.to_string_lossy());
+        Ok(Asked {
+            choice: Choice::new(fields.as_deref()).map_err(Failure::Usage)?,
+            raw: words.has("raw"),
+            skip: words.number("skip")?.unwrap_or(0),
+            limit: words.number("limit")?.unwrap_or(u64::MAX),
+        })
+    }
+}
+
+fn write(asked: &Asked, name: &Name, file: &File<'_>, out: &mut Output) -> Result<Status, Failure> {
+    let (header, format) = (file.header(), file.format());
+    let row = Row::new(&asked.choice, asked.raw, header, &format, &extra::of(file));
+    let mut row = row.map_err(Failure::Usage)?;
+    let total = file
+        .point_count()
+        .saturating_sub(asked.skip)
+        .min(asked.limit);
+
+    if !out.json {
+        out.line(&row.heading())?;
+    }
+    let progress = Progress::of_output(format!("points of {name}"), total);
+    let mut points = file.points();
+    if let Some(last) = asked.skip.checked_sub(1) {
+        points.nth(usize::try_from(last).unwrap_or(usize::MAX));
+    }
+    let mut lines = Vec::with_capacity(GATHERED.saturating_mul(2));
+    for done in 0..total {
+        // Looked at where it is: a point is large.
+        let point = points.next();
+        match &point {
+            Some(point) if out.json => row.json(point, &mut lines),
+            Some(point) => row.csv(point, &mut lines),
+            None => break,
+        }
+        if lines.len() >= GATHERED {
+            out.bytes(&lines)?;
+            lines.clear();
+            if let Some(progress) = &progress {
+                progress.at(done);
+            }
+        }
+    }
+    out.bytes(&lines)?;
+    Ok(Status::Done)
+}
