@@ -1,14 +1,16 @@
 -- The fields of a record are those that the format has: what holds of each of these holds of the record's, and the other way round.
-use Prim.Native.Nat.{ℕ}
+use Prim.Native.Nat.{ℕ, _+_, _≤_}
 use mathlib.Core.Path.{_≡_, refl}
 use mathlib.Core.Bool.{Bool, true, false, cond}
 use mathlib.Core.List.{List, [], _∷_, _++_}
 use native.Mathlib.Omega.{arith}
 use Rattle.fields.specs.Table.{All, none, _&_}
+use Rattle.fields.specs.Total.{each-within}
 use Rattle.format.specs.declared.Format.{Format}
 use Rattle.format.specs.declared.Field.{Field}
 use Rattle.format.specs.declared.Field.the-variants.{X, Y, Z, Intensity, Flags, UserData, ScanAngle, PointSourceId, GpsTime, Color, Nir, Waveform, ExtraBytes}
-use Rattle.format.specs.Fields.{only, restOf, fieldsOf, hasOf}
+use Rattle.format.specs.Fields.{only, restOf, fieldsOf, sizeOf, placeOf, hasOf, recordBytes}
+use Rattle.format.specs.Laws.{fields-follow}
 
 module _ (f : Format) (P : Field → Type 0) where
   and-only : (b : Bool) (x : Field) (xs : List Field) → (b ≡ true → P x) → All P xs → All P (only b x ++ xs)
@@ -72,3 +74,10 @@ module _ (f : Format) (P : Field → Type 0) where
     where
       from : All P (PointSourceId ∷ restOf f) → P UserData → P ScanAngle → P x
       from (source & rest) pu pa = of-rest source rest x h px py pz pi pf pu pa
+
+-- each field that the format has ends within the record
+pub field-within : (f : Format) (x : Field) → hasOf f x ≡ true → placeOf f x + sizeOf f x ≤ recordBytes f
+unfolding recordBytes
+field-within f =
+    field-of f (λ x. placeOf f x + sizeOf f x ≤ recordBytes f)
+    (each-within (sizeOf f) (placeOf f) (fieldsOf f) 0 (recordBytes f) (fields-follow f) (omega arith))

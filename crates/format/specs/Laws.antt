@@ -59,7 +59,7 @@ module _ (f : Format) where
   follow-only true x at xs e r = λ i. e i ∷ r i
   follow-only false x at xs e r = rw add-zero at r
 
-  rest-follow : Follows (placeOf f GpsTime) (restOf f)
+  pub rest-follow : Follows (placeOf f GpsTime) (restOf f)
   rest-follow =
       follow-only (f .«has_gps_time») GpsTime (placeOf f GpsTime) _ refl
       (follow-only (f .«has_color») Color (placeOf f Color) _ refl
