@@ -13,12 +13,11 @@ use Rattle.format.specs.declared.Format.{Format}
 use Rattle.format.specs.declared.FormatLen.the-variants as len
 use Rattle.format.specs.Fields.{recordBytes, lenOf}
 use Rattle.format.specs.Laws.{record-sum}
-use Rattle.pairs.specs.Paired.{Beside, Paired, Mates, six-one, seven-three, eight-three, nine-four, ten-five}
+use Rattle.pairs.specs.Paired.{Paired, Mates, six-one, seven-three, eight-three, nine-four, ten-five}
 use Rattle.pairs.specs.declared.Pair.the-variants.{Formats}
 use Rattle.pairs.specs.declared.Plan.{Plan}
 use Rattle.convert.specs.declared.Converted.{Converted}
 use Rattle.convert.specs.declared.Converted.the-variants as converted
-use Rattle.format.specs.Codes.{isIn, coded}
 use Rattle.pairs.specs.Pairs.{formatWith, oldPair, newPair, lengthsOf, plannedBy}
 use Rattle.convert.specs.Run.{convertedOf, convertedBy, toOldOf, toNewOf}
 use Rattle.pairs.specs.Sound.{Sound}
@@ -64,10 +63,10 @@ module _ (up : Bool) (a b : Format) where
         go false true f g h = not-bytes _ 0 n d e h
         go false false f g h = (ltb-false _ _ f, ltb-false _ _ g, h)
 
-  pub plan-of-sound : recordBytes a ≤ 65535 → recordBytes b ≤ 65535 → Mates up a b → Beside b → Sound up (planOf a b)
+  pub plan-of-sound : recordBytes a ≤ 65535 → recordBytes b ≤ 65535 → Mates up a b → Sound up (planOf a b)
   unfolding lenOf
-  plan-of-sound h l mates beside =
-      record { from = rw (le-ltb 65535 (recordBytes a) h); into = rw (le-ltb 65535 (recordBytes b) l); mates = mates; beside = beside }
+  plan-of-sound h l mates =
+      record { from = rw (le-ltb 65535 (recordBytes a) h); into = rw (le-ltb 65535 (recordBytes b) l); mates = mates }
 
 -- the old record of a pair is the shorter
 pub shorter : (new old : Format) → Paired new old → recordBytes old ≤ recordBytes new
@@ -79,13 +78,6 @@ down-paired from-7 = seven-three
 down-paired from-8 = eight-three
 down-paired from-9 = nine-four
 down-paired from-10 = ten-five
-
-pub up-beside : {old new : ℕ} → Up old new → (extra : ℕ) → Beside (formatWith new extra)
-unfolding formatWith coded isIn
-up-beside from-1 extra = refl
-up-beside from-3 extra = refl
-up-beside from-4 extra = refl
-up-beside from-5 extra = refl
 
 -- what a run of a pair is told, on the way down and up
 pub down-told : {new old : ℕ} → Down new old → (extra count : ℕ) (s d : List ℕ) → toOldOf new extra count s d ≡ told false (formatWith new extra) (formatWith old extra) count s d

@@ -1,7 +1,7 @@
 -- What the two formats of a pair have in common.
 use Prim.Native.Nat.{ℕ}
 use mathlib.Core.Path.{_≡_, refl}
-use mathlib.Core.Bool.{Bool, true, false, _&&_}
+use mathlib.Core.Bool.{Bool, true, false}
 use Rattle.format.specs.declared.Format.{Format}
 use Rattle.format.specs.Codes.{isIn, coded}
 use Rattle.pairs.specs.Pairs.{formatWith}
@@ -43,13 +43,6 @@ module _ (extra : ℕ) where
   pub ten-five : Paired (formatWith 10 extra) (formatWith 5 extra)
   unfolding coded isIn
   ten-five = pair-paired 10 5 extra refl refl refl refl refl refl
-
--- where there is a near infrared there is a colour, as in every format of the standard
-abbrev pub Beside : Format → Type 0
-Beside f = (f .«has_nir» && f .«has_color») ≡ f .«has_nir»
-
-pub old-beside : (new old : Format) → Paired new old → Beside old
-old-beside new old pair = rw (pair .no-nir)
 
 -- source and target of a run that goes up, or down
 abbrev pub Mates : Bool → Format → Format → Type 0

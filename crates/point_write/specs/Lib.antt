@@ -1,11 +1,10 @@
 pub mod Write
 pub mod Laws
+pub mod Taken
 pub mod Back
-pub mod Answered
 pub mod Past
 pub mod Held
 pub mod Found
-pub mod Places
 pub mod Again
 pub mod Accepted
 pub mod Theorems
