@@ -4,4 +4,5 @@ pub mod Judged
 pub mod Window
 pub mod Laws
 pub mod Answers
+pub mod Minor
 pub mod Theorems
