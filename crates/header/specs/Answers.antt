@@ -4,7 +4,7 @@ use mathlib.Core.Path.{_≡_, refl, sym, ap, subst, _∙_}
 use mathlib.Core.Bool.{Bool, true, false, cond, _&&_}
 use mathlib.Core.List.{List}
 use native.Mathlib.Omega.{arith}
-use borrow.Author.Tests.{le-ltb, ltb-true, ltb-false}
+use borrow.Author.Tests.{lt-ltb, eq-eqb, ltb-false}
 use lib.Dec.{eqb, ltb}
 use lib.ListN.{length, take, drop}
 use Rattle.le.specs.Le.{Bytes}
@@ -16,7 +16,7 @@ use Rattle.header.specs.declared.StandardSize.the-variants.{Is, Refused 
 use Rattle.header.specs.declared.HeaderAnswer.{HeaderAnswer}
 use Rattle.header.specs.declared.HeaderAnswer.the-variants.{Whole, Refused}
 use Rattle.header.specs.declared.HeaderRead.{HeaderRead}
-use Rattle.header.specs.Layout.{FileSignature, HeaderSize, PointDataRecordLength, place}
+use Rattle.header.specs.Layout.{FileSignature, HeaderSize, PointDataRecordLength, place, fieldsOf, size}
 use Rattle.header.specs.Header.{part, number, headerOf, defaultHeader, lasf}
 use Rattle.header.specs.Judged.{eqList, standardOf, versionOf, paddedTo, sized, versioned, judged, readBy, readOf, paddingBy, paddingOf}
 use Rattle.header.specs.Laws.{within}
@@ -57,6 +57,11 @@ record-length-fits s bytes = go (judged s)
     go : (a : HeaderAnswer) → readBy a s .header .«point_data_record_length» ≤ 65535
     go (Whole n e) = omega (arith, num-lt 2 (take n s) (place PointDataRecordLength) (bytes-take n s bytes))
     go (Refused r) = omega arith
+
+-- a version that is known has the size of its fields
+pub standard-is : (v : Version) → v .major ≡ 1 → v .minor < 5 → standardOf v ≡ Is (size (fieldsOf (v .minor)))
+unfolding standardOf
+standard-is v major minor = rw (eq-eqb _ _ major, lt-ltb _ _ minor)
 
 -- where the padding ends
 pub padded-field : (n field : ℕ) → n ≤ field → paddedTo n field ≡ field

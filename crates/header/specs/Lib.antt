@@ -1,7 +1,9 @@
+pub mod Kinds
 pub mod Layout
 pub mod Header
 pub mod Judged
 pub mod Window
 pub mod Laws
 pub mod Answers
+pub mod Values
 pub mod Theorems

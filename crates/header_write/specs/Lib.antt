@@ -3,7 +3,7 @@ pub mod Table
 pub mod Wrote
 pub mod Back
 pub mod Round
-pub mod Again
 pub mod Readable
+pub mod Reads
 pub mod Reread
 pub mod Theorems

@@ -14,9 +14,10 @@ use Rattle.lent.specs.declared.Wrote.the-variants as wrote
 use Rattle.header.specs.declared.HeaderAnswer.the-variants.{Whole}
 use Rattle.header.specs.Layout.{FileSignature, VersionMinor, StartOfFirstEvlr, NumberOfEvlrs, size, fieldsOf}
 use Rattle.header.specs.Header.{part, number, lasf, headerOf}
-use Rattle.header.specs.Judged.{versionOf, judged, readBy, readOf, paddingBy, paddingOf}
+use Rattle.header.specs.Judged.{judged, readOf, paddingOf}
 use Rattle.header.specs.Window.{part-take}
 use Rattle.header.specs.Laws.{accepted, within, standard-of}
+use Rattle.header.specs.Answers.{read-whole, padding-whole, version-read}
 use Rattle.header_write.specs.Bytes.{block}
 use Rattle.header_write.specs.Wrote.{wroteBy, wroteOf}
 use Rattle.header_write.specs.Back.{Paired, block-back, block-half}
@@ -52,8 +53,7 @@ module _ (s : List ℕ) (bytes : Bytes s) {n e : ℕ} (p : judged s ≡ Whole n 
 
   -- what is written back is the block and the padding
   read-back : {b : List ℕ} → block (headerOf (take n s)) ≡ b → block (readOf s .header) ++ paddingOf s ≡ b ++ take (e - n) (drop n s)
-  unfolding readOf readBy paddingOf paddingBy
-  read-back q = rw (p, q)
+  read-back q = rw (read-whole s p, padding-whole s p, q)
 
   whole-list : take n s ++ take (e - n) (drop n s) ≡ take e s
   whole-list = sym (take-add n (e - n) s) ∙ ap (λ (k : ℕ). take k s) (add-sub-of-le (within s p .1))
@@ -76,15 +76,11 @@ module _ (s : List ℕ) (bytes : Bytes s) {n e : ℕ} (p : judged s ≡ Whole n 
       ∙ ap (λ (l : List ℕ). take 235 l ++ (replicate 12 0 ++ drop 247 l)) whole-list
 
   -- the answer and the buffer, where there is room
-  version-same : readOf s .header .version ≡ versionOf s
-  unfolding readOf readBy headerOf versionOf
-  version-same = rw p (λ i. record { major = num-take 1 24 s n (omega (arith, within s p .0)) i; minor = minor-same i })
-
   pub written-back : (d : List ℕ) {bs : List ℕ} → block (readOf s .header) ++ paddingOf s ≡ bs → e ≤ length d → wroteOf (readOf s .header) (paddingOf s) d ≡ (wrote.Bytes e, bs ++ drop e d)
-  unfolding wroteOf wroteBy paddingOf paddingBy
+  unfolding wroteOf wroteBy
   written-back d q room =
       let w = within s p in
       let pad : length (take (e - n) (drop n s)) ≡ e - n = length-take-le (e - n) (drop n s) (simp length-drop (omega (arith, w .1, w .2))) in
-      let wanted : n + length (paddingOf s) ≡ e = rw (p, pad) (add-sub-of-le (w .1)) in
+      let wanted : n + length (paddingOf s) ≡ e = rw (padding-whole s p, pad) (add-sub-of-le (w .1)) in
       let fits : n + length (paddingOf s) ≤ length d = omega arith in
-      rw (version-same, standard-of s p, le-leb _ _ fits, wanted, q)
+      rw (version-read s p, standard-of s p, le-leb _ _ fits, wanted, q)
