@@ -1,12 +1,12 @@
 -- What was read is written as the bytes that it was read from, field by field.
-use Prim.Native.Nat.{ℕ, _+_, _≤_, _<_}
+use Prim.Native.Nat.{ℕ, _+_, _≤_}
 use mathlib.Core.Path.{_≡_, refl, sym, ap, _∙_}
 use mathlib.Core.Bool.{Bool, true, false, cond}
 use mathlib.Core.Logic.{_⊎_, inl, inr, ⊎-elim}
 use mathlib.Core.List.{List, [], _∷_, _++_}
 use native.Mathlib.Omega.{arith}
-use borrow.Author.Tests.{eqb-true, eqb-false, eq-eqb, ne-eqb, ltb-false}
-use lib.Dec.{eqb, ltb}
+use borrow.Author.Tests.{eqb-true, eqb-false, eq-eqb, ne-eqb}
+use lib.Dec.{eqb}
 use lib.ListN.{length, take, drop, replicate, length-drop}
 use lib.Seq.{take-all}
 use Rattle.le.specs.Le.{bytes, Bytes}
@@ -15,8 +15,9 @@ use Rattle.fields.specs.Laws.{mapped, both, joined-append, joined-parts}
 use Rattle.header.specs.declared.Evlr.{Evlr}
 use Rattle.header.specs.declared.LargeFile.{LargeFile}
 use Rattle.header.specs.Kinds.{bytesOf}
-use Rattle.header.specs.Laws.{size-least}
-use Rattle.header.specs.Layout.{Field, FileSignature, VersionMinor, StartOfWaveformDataPacketRecord, StartOfFirstEvlr, NumberOfEvlrs, NumberOfPointRecords, NumberOfPointsByReturn, place, kind, width, fields12, fields13, fields14, fieldsOf, size, large}
+use Rattle.header.specs.Laws.{by-version}
+use Rattle.header.specs.Answers.{Block}
+use Rattle.header.specs.Layout.{Field, FileSignature, VersionMinor, StartOfWaveformDataPacketRecord, StartOfFirstEvlr, NumberOfEvlrs, NumberOfPointRecords, NumberOfPointsByReturn, place, kind, width, fields12, fields13, fieldsOf, size, large}
 use Rattle.header.specs.Header.{part, number, value, lasf, startOf, evlrOf, nansOf, largeRead, noLarge, headerOf}
 use Rattle.header.specs.Values.{value-back}
 use Rattle.header_write.specs.Bytes.{startBack, evlrBack, valueOf, fieldBytes, block}
@@ -106,26 +107,22 @@ module _ (b : List ℕ) where
         (mapped (λ f e h. ap (bytesOf (kind f)) e ∙ value-back b bs (kind f) (place f) h) fs same)
 
 -- Of the block of a version, all of its fields come back, so the block does.
-module _ (b : List ℕ) (bs : Bytes b) (signed : part FileSignature b ≡ lasf) (known : number VersionMinor b < 5) (long : length b ≡ size (fieldsOf (number VersionMinor b))) where
+module _ (b : List ℕ) (bs : Bytes b) (k : Block b) where
   pub block-back : (number VersionMinor b ≡ 4 → Paired (number StartOfFirstEvlr b) (number NumberOfEvlrs b)) → block (headerOf b) ≡ b
   unfolding block headerOf
   block-back paired =
       let m = number VersionMinor b in
-      back b bs (fieldsOf m) 0 (follows m) (omega arith) (go (ltb m 3) (ltb m 4) refl refl) ∙ take-all (size (fieldsOf m)) b (omega arith)
-    where
-      go : (x y : Bool) → ltb (number VersionMinor b) 3 ≡ x → ltb (number VersionMinor b) 4 ≡ y → All (Same b) (cond x fields12 (cond y fields13 fields14))
-      go true y p q = same-12 b signed
-      go false true p q = both (same-12 b signed) (same-13 b)
-      go false false p q =
-          let four : number VersionMinor b ≡ 4 = omega (arith, ltb-false (number VersionMinor b) 4 q) in
-          both (both (same-12 b signed) (same-13 b)) (both (same-pair b (paired four)) (same-counts b four))
+      let old = same-12 b (k .signature) in
+      let four : 4 ≤ m → m ≡ 4 = λ h. omega (arith, k .minor) in
+      let same = by-version (All (Same b)) m (λ h. old) (λ h. both old (same-13 b)) (λ h. both (both old (same-13 b)) (both (same-pair b (paired (four h))) (same-counts b (four h)))) in
+      back b bs (fieldsOf m) 0 (follows m) (omega (arith, k .fills)) same ∙ take-all (size (fieldsOf m)) b (omega (arith, k .fills))
 
   -- A pair of which one is zero comes back as two zeros.
   pub block-half : number VersionMinor b ≡ 4 → (number StartOfFirstEvlr b ≡ 0) ⊎ (number NumberOfEvlrs b ≡ 0) → block (headerOf b) ≡ take 235 b ++ (replicate 12 0 ++ drop 247 b)
   unfolding block headerOf
   block-half four half =
-      let l : length b ≡ 375 = long ∙ rw four in
-      let first = back b bs fields13 0 refl (omega arith) (both (same-12 b signed) (same-13 b)) in
+      let l : length b ≡ 375 = k .fills ∙ rw four in
+      let first = back b bs fields13 0 refl (omega arith) (both (same-12 b (k .signature)) (same-13 b)) in
       let last = back b bs (NumberOfPointRecords ∷ NumberOfPointsByReturn ∷ []) 247 refl (omega arith) (same-counts b four) in
       let rest : length (drop 247 b) ≤ 128 = simp length-drop (omega arith) in
       let none-written = pair-cleared (number StartOfFirstEvlr b) (number NumberOfEvlrs b) half in

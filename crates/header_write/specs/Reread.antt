@@ -1,12 +1,11 @@
 -- A header that is written and read again.
 use Prim.Native.Nat.{ℕ, _+_, _≤_, _<_}
 use mathlib.Core.Path.{_≡_, refl, sym, ap, _∙_}
-use mathlib.Core.Bool.{Bool, true, false, cond}
 use mathlib.Core.List.{List, [], _∷_, _++_, append-assoc, append-nil}
 use native.Mathlib.Nat.{add-sub-cancel-left}
 use native.Mathlib.Omega.{arith}
-use borrow.Author.Tests.{eq-eqb, ltb-true, ltb-false}
-use lib.Dec.{eqb, ltb, leb}
+use borrow.Author.Tests.{eq-eqb}
+use lib.Dec.{eqb, leb}
 use lib.ListN.{length, take, drop, length-append}
 use lib.Seq.{take-at, drop-at}
 use Rattle.le.specs.Le.{num}
@@ -21,7 +20,7 @@ use Rattle.header.specs.Layout.{Field, FileSignature, VersionMajor, VersionMino
 use Rattle.header.specs.Header.{part, number, value, startOf, evlrOf, nansOf, largeRead, headerOf, lasf}
 use Rattle.header.specs.Judged.{paddedTo, judged, readOf, paddingOf}
 use Rattle.header.specs.Window.{part-take}
-use Rattle.header.specs.Laws.{whole, size-least}
+use Rattle.header.specs.Laws.{by-version, whole, size-least}
 use Rattle.header.specs.Answers.{read-whole, padding-whole, standard-is, padded-most}
 use Rattle.header.specs.Values.{value-wide, value-again, nums-past}
 use Rattle.header_write.specs.Bytes.{valueOf, fieldBytes, block}
@@ -112,33 +111,26 @@ module _ (h : Header) (padding : List ℕ) (r : Readable h padding) where
     no-large = (λ i. record { «number_of_point_records» = num-past 8 (block h) 247 (omega arith) i; «number_of_points_by_return» = nums-past 8 15 255 (block h) (omega arith) i }) ∙ sym (r .large-lacks old)
 
   -- what each version has
-  pub header-again : (headerOf (block h) ≡ h) × (part FileSignature (block h) ≡ lasf)
+  abbrev Kept : Type 0
+  Kept = (headerOf (block h) ≡ h) × (part FileSignature (block h) ≡ lasf)
+
+  wave-again : All Again (StartOfWaveformDataPacketRecord ∷ []) → startOf (value StartOfWaveformDataPacketRecord (block h)) ≡ h .«start_of_waveform_data_packet_record»
+  wave-again (start & none) = ap startOf start ∙ r .start-normal
+
+  new-again : h .version .minor ≡ 4 → All Again fields13 → All Again large → Kept
+  new-again four old (start & count & points & by-return & none) =
+      let parts = split fields12 (StartOfWaveformDataPacketRecord ∷ []) old in
+      same (parts .0) (wave-again (parts .1)) ((λ i. evlrOf (start i) (count i)) ∙ r .evlr-normal)
+      ((λ i. record { «number_of_point_records» = points i; «number_of_points_by_return» = by-return i }) ∙ rw (r .large-there, eq-eqb _ _ four))
+
+  pub header-again : Kept
   unfolding startOf
-  header-again = go (ltb (h .version .minor) 3) (ltb (h .version .minor) 4) refl refl again
-    where
-      wave-again : All Again (StartOfWaveformDataPacketRecord ∷ []) → startOf (value StartOfWaveformDataPacketRecord (block h)) ≡ h .«start_of_waveform_data_packet_record»
-      wave-again (start & none) = ap startOf start ∙ r .start-normal
-
-      new : h .version .minor ≡ 4 → All Again fields13 → All Again large → (headerOf (block h) ≡ h) × (part FileSignature (block h) ≡ lasf)
-      new four old (start & count & points & by-return & none) =
-          let parts = split fields12 (StartOfWaveformDataPacketRecord ∷ []) old in
-          same (parts .0) (wave-again (parts .1)) ((λ i. evlrOf (start i) (count i)) ∙ r .evlr-normal)
-          ((λ i. record { «number_of_point_records» = points i; «number_of_points_by_return» = by-return i }) ∙ rw (r .large-there, eq-eqb _ _ four))
-
-      go : (x y : Bool) → ltb (h .version .minor) 3 ≡ x → ltb (h .version .minor) 4 ≡ y → All Again (cond x fields12 (cond y fields13 fields14)) → (headerOf (block h) ≡ h) × (part FileSignature (block h) ≡ lasf)
-      go true y p q all =
-          let m = ltb-true (h .version .minor) 3 p in
-          let l : length (block h) ≡ 227 = length-is ∙ rw p in
-          same all (rw (num-past 8 (block h) 227 (omega arith)) (sym (r .start-lacks m))) (no-pair (omega arith) (omega arith)) (no-large (omega arith) (omega arith))
-      go false true p q all =
-          let m = ltb-true (h .version .minor) 4 q in
-          let l : length (block h) ≡ 235 = length-is ∙ rw (p, q) in
-          let parts = split fields12 (StartOfWaveformDataPacketRecord ∷ []) all in
-          same (parts .0) (wave-again (parts .1)) (no-pair m (omega arith)) (no-large m (omega arith))
-      go false false p q all =
-          let four : h .version .minor ≡ 4 = omega (arith, r .minor, ltb-false (h .version .minor) 4 q) in
-          let parts = split fields13 large all in
-          new four (parts .0) (parts .1)
+  header-again =
+      by-version (λ fs. All Again fs → length (block h) ≡ size fs → Kept) (h .version .minor)
+      (λ m all l. same all (rw (num-past 8 (block h) 227 (omega arith)) (sym (r .start-lacks m))) (no-pair (omega arith) (omega arith)) (no-large (omega arith) (omega arith)))
+      (λ m all l. let parts = split fields12 (StartOfWaveformDataPacketRecord ∷ []) all in same (parts .0) (wave-again (parts .1)) (no-pair (omega arith) (omega arith)) (no-large (omega arith) (omega arith)))
+      (λ m all l. let parts = split fields13 large all in new-again (omega (arith, r .minor)) (parts .0) (parts .1))
+      again length-is
 
   -- what is written, whatever lies past it
   module _ (rest : List ℕ) where

@@ -1,2 +1,4 @@
+-- definitions
 pub mod Front
+-- laws
 pub mod Laws
