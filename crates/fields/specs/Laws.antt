@@ -4,7 +4,7 @@ use mathlib.Core.Path.{_≡_, refl, sym, ap, _∙_}
 use mathlib.Core.List.{List, [], _∷_, _++_, append-assoc}
 use native.Mathlib.Omega.{arith}
 use lib.ListN.{length, take, drop, length-append}
-use lib.Seq.{sets, take-add, drop-drop, take-at, drop-at}
+use lib.Seq.{sets, length-sets, take-add, drop-drop, take-at, drop-at}
 use Rattle.lent.specs.Laws.{sets-append}
 use Rattle.fields.specs.Table.{part, total, Follow, starts, joined, All, none, _&_, Stored, done, store}
 
@@ -12,6 +12,14 @@ module _ {F : Type 0} where
   pub every : {P : F → Type 0} → ((f : F) → P f) → (fs : List F) → All P fs
   every p [] = none
   every p (f ∷ fs) = p f & every p fs
+
+  pub mapped : {P Q : F → Type 0} → ((f : F) → P f → Q f) → (fs : List F) → All P fs → All Q fs
+  mapped g [] none = none
+  mapped g (f ∷ fs) (p & ps) = g f p & mapped g fs ps
+
+  pub zipped : {P Q R : F → Type 0} → ((f : F) → P f → Q f → R f) → (fs : List F) → All P fs → All Q fs → All R fs
+  zipped g [] none none = none
+  zipped g (f ∷ fs) (p & ps) (q & qs) = g f p q & zipped g fs ps qs
 
   pub both : {P : F → Type 0} {xs ys : List F} → All P xs → All P ys → All P (xs ++ ys)
   both none q = q
@@ -24,6 +32,15 @@ module _ {F : Type 0} where
   pub joined-append : (g : F → List ℕ) (xs ys : List F) → joined g (xs ++ ys) ≡ joined g xs ++ joined g ys
   joined-append g [] ys = refl
   joined-append g (x ∷ xs) ys = rw (append-assoc, joined-append g xs ys)
+
+-- fields that follow each other lie where they all do
+pub within : {F : Type 0} (width place : F → ℕ) (fs : List F) (p n : ℕ) → Follow width place p fs → p + total width fs ≤ n → All (λ (f : F). place f + width f ≤ n) fs
+within width place [] p n e h = none
+within width place (f ∷ fs) p n e h =
+    let here : place f ≡ p = cc in
+    let rest : Follow width place (p + width f) fs = cc in
+    let first : place f + width f ≤ n = omega arith in
+    first & within width place fs (p + width f) n rest (omega arith)
 
 module _ {F : Type 0} (width : F → ℕ) (g : F → List ℕ) where
   -- pieces that are as wide as the table says
@@ -65,6 +82,10 @@ module _ {F : Type 0} (width : F → ℕ) (g : F → List ℕ) where
     pub stored-wide : {d r : List ℕ} {fs : List F} → Stored width place g d fs r → Wide fs
     stored-wide done = none
     stored-wide (store q w st) = w & stored-wide st
+
+    pub stored-length : {d r : List ℕ} {fs : List F} → Stored width place g d fs r → length r ≡ length d
+    stored-length done = refl
+    stored-length (store q w st) = stored-length st ∙ ap length q ∙ simp length-sets
 
     -- some fields, and then others
     pub then : {d e r : List ℕ} {xs ys : List F} → Stored width place g d xs e → Stored width place g e ys r → Stored width place g d (xs ++ ys) r
