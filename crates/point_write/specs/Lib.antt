@@ -1,6 +1,7 @@
 pub mod Write
 pub mod Laws
 pub mod Taken
+pub mod Answered
 pub mod Back
 pub mod Past
 pub mod Held

@@ -11,10 +11,9 @@ use Rattle.format.specs.Fields.{recordBytes}
 use Rattle.point.specs.declared.Point.{Point}
 use Rattle.point.specs.declared.PointRead.the-variants.{Is}
 use Rattle.point.specs.Read.{fieldOf, pointOf, readOf, extraOf}
-use Rattle.point.specs.Answer.{Answered, answered}
 use Rattle.point_write.specs.Write.{recordOf, writtenOf}
 use Rattle.point_write.specs.Back.{record-back}
-use Rattle.point_write.specs.Taken.{taken-written, read-taken}
+use Rattle.point_write.specs.Answered.{Answered, answered, answered-written}
 use Rattle.point_write.specs.Past.{point-take, read-take, extra-take}
 use Rattle.point_write.specs.Held.{Held}
 use Rattle.point_write.specs.Found.{point-found}
@@ -30,8 +29,7 @@ module _ (f : Format) (s : List ℕ) where
   pub answer-then-written : Bytes s → (p : Point) → readOf f s ≡ Is p → (d : List ℕ) → recordBytes f ≤ length d → writtenOf f p (extraOf f s) d ≡ (wrote.Bytes (recordBytes f), take (recordBytes f) s ++ drop (recordBytes f) d)
   answer-then-written all p r d h =
       let a : Answered f s p = answered f s p r in
-      (λ i. writtenOf f (a .point i) (a .extra i) d)
-      ∙ taken-written f (pointOf f s) (fieldOf f ExtraBytes s) (read-taken f s (a .room)) (recordBytes f) d h (a .long)
+      answered-written f s p a d h
       ∙ ap (λ (l : List ℕ). (wrote.Bytes (recordBytes f), l ++ drop (recordBytes f) d)) (read-then-written all (a .room))
 
   -- "The reader never looks past the record's length", for the point, for a read with its refusals and for the extra bytes.
