@@ -1,4 +1,3 @@
 pub mod Layout
-pub mod Following
 pub mod Placed
 pub mod Theorems
