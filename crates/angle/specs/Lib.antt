@@ -1,3 +1,4 @@
 pub mod Angle
 pub mod Sign
+pub mod Ranks
 pub mod Theorems

@@ -24,6 +24,15 @@ oldFirst returnNumber returns direction edge = returnNumber + 8 * returns + 64 *
 abbrev pub oldSecond : ℕ → Bool → Bool → Bool → ℕ
 oldSecond class synthetic key withheld = class + 32 * flag synthetic + 64 * flag key + 128 * flag withheld
 
+-- byte one of extended flags, from what it says
+abbrev pub newFirst : ℕ → ℕ → ℕ
+newFirst returnNumber returns = returnNumber + 16 * returns
+
+-- byte two of extended flags, from what it says
+abbrev pub newSecond : Bool → Bool → Bool → Bool → ℕ → Bool → Bool → ℕ
+newSecond synthetic key withheld overlap channel direction edge =
+    flag synthetic + 2 * flag key + 4 * flag withheld + 8 * flag overlap + 16 * channel + 64 * flag direction + 128 * flag edge
+
 -- the old bytes that say what f says, a set overlap flag taking the place of the class as class 12
 unfoldable pub oldBytesOf : Flags → TwoBytes
 oldBytesOf f =

@@ -1,4 +1,6 @@
 pub mod Readings
 pub mod Bytes
+pub mod Bits
+pub mod Laws
 pub mod Fitted
 pub mod Theorems

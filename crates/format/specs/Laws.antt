@@ -6,15 +6,13 @@ use mathlib.Core.List.{List, [], _∷_, _++_}
 use native.Mathlib.Nat.{add-zero}
 use native.Mathlib.Omega.{arith}
 use borrow.Author.Tests.{lt-ltb}
-use lib.Dec.{ltb}
 use Rattle.format.specs.declared.Format.{Format}
 use Rattle.format.specs.declared.Field.{Field}
 use Rattle.format.specs.declared.Field.the-variants.{UserData, ScanAngle, PointSourceId, GpsTime, Color, Nir, Waveform, ExtraBytes}
-use Rattle.refusal.specs.declared.Refusal.the-variants.{RecordLength}
-use Rattle.format.specs.declared.FormatLen.the-variants.{Is, Refused}
 use Rattle.format.specs.declared.NewFormat.the-variants as new
 use Rattle.format.specs.Codes.{coded, formatOf}
-use Rattle.format.specs.Fields.{only, restOf, fieldsOf, sizeOf, placeOf, Follow, sizes, recordBytes, lenOf}
+pub use Rattle.format.specs.Length.{len-is}
+use Rattle.format.specs.Fields.{only, restOf, fieldsOf, sizeOf, placeOf, Follow, sizes, recordBytes}
 
 -- a code of the standard has a format
 pub code-known : (n : ℕ) → n < 11 → formatOf n ≡ new.Is (coded n false)
@@ -92,12 +90,3 @@ module _ (f : Format) where
   pub rest-sum : recordBytes f ≡ placeOf f GpsTime + sizes f (restOf f)
   unfolding sizes
   rest-sum = record-sum ∙ rw (further 20 (f .«is_extended»)) (simp (sizes-append, sizes-only) (omega arith))
-
-  -- a length that is no refusal is the record's
-  pub len-is : (n : ℕ) → lenOf f ≡ Is n → n ≡ recordBytes f
-  unfolding lenOf
-  len-is n e = go (ltb 65535 (recordBytes f)) e
-    where
-      go : (b : Bool) → cond b (Refused (RecordLength (recordBytes f))) (Is (recordBytes f)) ≡ Is n → n ≡ recordBytes f
-      go true e = let z : _≡_ {A = ℕ} 0 1 = cc in absurd (omega arith)
-      go false e = cc

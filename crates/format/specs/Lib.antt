@@ -1,5 +1,7 @@
 pub mod Format
 pub mod Fields
 pub mod Codes
+pub mod Length
 pub mod Laws
+pub mod Attributes
 pub mod Theorems

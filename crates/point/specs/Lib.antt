@@ -1,3 +1,4 @@
 pub mod Read
 pub mod Kind
-pub mod Whole
+pub mod Answer
+pub mod Marks

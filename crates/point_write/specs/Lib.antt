@@ -9,3 +9,4 @@ pub mod Places
 pub mod Again
 pub mod Accepted
 pub mod Theorems
+pub mod Taken

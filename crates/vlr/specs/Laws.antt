@@ -1,23 +1,26 @@
 -- Laws of the answers: when a record is all there, and what is read then; what a write that was not refused says.
 use Prim.Native.Nat.{ℕ, _+_, _≤_}
-use mathlib.Core.Path.{_≡_, refl, ap, sym}
+use mathlib.Core.Path.{_≡_, refl, ap, sym, _∙_}
 use mathlib.Core.Bool.{Bool, true, false, cond}
 use mathlib.Core.List.{List, _++_}
 use native.Mathlib.Omega.{arith}
-use borrow.Author.Tests.{ltb-false, le-ltb, eqb-true}
+use borrow.Author.Tests.{ltb-false, le-ltb, eqb-true, eq-eqb, ne-eqb}
 use lib.ListN.{length, drop, length-drop}
-use lib.Seq.{length-take-le}
+use lib.Seq.{sets, length-take-le}
 use lib.Dec.{ltb, leb, eqb}
 use Rattle.le.specs.Laws.{length-bytes}
 use Rattle.refusal.specs.declared.Refusal.{Refusal}
+use Rattle.refusal.specs.declared.Refusal.the-variants.{VlrDataLength}
 use Rattle.lent.specs.declared.Wrote.{Wrote}
 use Rattle.lent.specs.declared.Wrote.the-variants as wrote
+use Rattle.lent.specs.Front.{frontOf}
 use Rattle.vlr.specs.declared.Extent.the-variants.{Bytes, Refused}
 use Rattle.vlr.specs.declared.Vlr.{Vlr}
-use Rattle.vlr.specs.Cut.{part, length-joined}
-use Rattle.vlr.specs.Layout.{LengthAfterHeader, width, headSize}
-use Rattle.vlr.specs.Places.{head-sizes}
-use Rattle.vlr.specs.Vlr.{dataLength, isExtended, isEvlr, lengthOf, vlrOf, recordSize, extentOf, readOf, dataOf, headBytes, writtenOf}
+use Rattle.fields.specs.Table.{part, none, _&_, Stored}
+use Rattle.fields.specs.Laws.{Wide, length-joined, stored-joined}
+use Rattle.vlr.specs.Layout.{LengthAfterHeader, fields, width, place, headSize}
+use Rattle.vlr.specs.Places.{places-follow, head-sizes}
+use Rattle.vlr.specs.Vlr.{dataLength, isEvlr, lengthOf, vlrOf, recordSize, extentOf, readOf, dataOf, fieldBytes, headBytes, writtenOf}
 
 neither : (a b : Bool) (x y : Refusal) (m : ℕ) {n : ℕ} → cond a (Refused x) (cond b (Refused y) (Bytes m)) ≡ Bytes n → (b ≡ false) × (n ≡ m)
 neither true b x y m p = let z : _≡_ {A = ℕ} 0 1 = cc in absurd (omega arith)
@@ -36,12 +39,29 @@ accepted extended s p =
     let q = neither (ltb (length s) (headSize extended)) (ltb (length s) (recordSize extended s)) _ _ _ p in
     record { size = q .1; there = rw (q .1) (ltb-false _ _ (q .0)) }
 
--- a head whose arrays have their lengths has the bytes of its kind
-pub length-head : (v : Vlr) → length (v .«user_id») ≡ 16 → length (v .description) ≡ 32 → length (headBytes v) ≡ headSize (isEvlr v)
+-- a head whose arrays have their lengths has fields of the table's widths, and so the bytes of its kind
+module _ (v : Vlr) (id : length (v .«user_id») ≡ 16) (text : length (v .description) ≡ 32) where
+  pub head-wide : Wide (width (isEvlr v)) (fieldBytes v) fields
+  head-wide = refl & id & refl & length-bytes (width (isEvlr v) LengthAfterHeader) (dataLength (v .«record_length_after_header»)) & text & none
+
+  pub length-head : length (headBytes v) ≡ headSize (isEvlr v)
+  unfolding headBytes
+  length-head = length-joined (width (isEvlr v)) (fieldBytes v) fields head-wide ∙ head-sizes (isEvlr v)
+
+-- its fields stored each at its place are the head, stored at the front
+pub stored-head : (v : Vlr) {d r : List ℕ} → Stored (width (isEvlr v)) (place (isEvlr v)) (fieldBytes v) d fields r → r ≡ sets d 0 (headBytes v)
 unfolding headBytes
-length-head v u d =
-    let n = v .«record_length_after_header» in
-    rw length-joined (omega (arith, length-bytes (width (isExtended n) LengthAfterHeader) (dataLength n), head-sizes (isExtended n)))
+stored-head v st = stored-joined (width (isEvlr v)) (fieldBytes v) (place (isEvlr v)) fields 0 (places-follow (isEvlr v)) st
+
+-- what a write answers where the data has the stated length, and where it has not
+module _ (v : Vlr) (content d : List ℕ) where
+  pub stated-length : length content ≡ dataLength (v .«record_length_after_header») → writtenOf v content d ≡ frontOf (headBytes v ++ content) d
+  unfolding writtenOf
+  stated-length e = rw (eq-eqb _ _ e)
+
+  pub other-length : (length content ≡ dataLength (v .«record_length_after_header») → ⊥) → writtenOf v content d ≡ (wrote.Refused (VlrDataLength (dataLength (v .«record_length_after_header»))), d)
+  unfolding writtenOf
+  other-length n = rw (ne-eqb _ _ n)
 
 -- the answer for a record that is whole
 pub takes : (extended : Bool) (s : List ℕ) (n : ℕ) → Whole extended s n → extentOf extended s ≡ Bytes n

@@ -17,7 +17,7 @@ use Rattle.vlr.specs.declared.Vlr.{Vlr}
 use Rattle.vlr.specs.declared.Extent.{Extent}
 use Rattle.vlr.specs.declared.Extent.the-variants as extent
 use Rattle.vlr.specs.declared.VlrRead.{VlrRead}
-use Rattle.vlr.specs.Cut.{joined, part}
+use Rattle.fields.specs.Table.{joined, part}
 use Rattle.vlr.specs.Layout.{Field, Reserved, UserId, RecordId, LengthAfterHeader, Description, fields, width, place, headSize}
 
 -- how many bytes of data a length states; whether it is an EVLR's, and whether a record is one
