@@ -1,4 +1,4 @@
 pub mod Read
 pub mod Kind
 pub mod Answer
-pub mod Whole
+pub mod Marks

@@ -1,4 +1,6 @@
 // A point record, read. From src/raw/point.rs of las 0.11.2: `Waveform`, `Point`, `read_from`, and `Color` from its color.rs.
+pub mod marks;
+
 ghost use mathlib.Core.Path.{_≡_};
 ghost use mathlib.Core.Bool.{cond};
 ghost use mathlib.Core.List.{[]};
