@@ -1,3 +1,6 @@
+-- definitions
 pub mod Layout
+-- laws
 pub mod Placed
+-- theorems
 pub mod Theorems
