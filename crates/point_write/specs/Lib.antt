@@ -6,9 +6,9 @@ pub mod Laws
 pub mod Taken
 pub mod Answered
 pub mod Back
-pub mod Past
 pub mod Found
 pub mod Again
+pub mod Past
 pub mod Accepted
 -- theorems
 pub mod Theorems
