@@ -2,26 +2,21 @@
 -- records.
 use Prim.Native.Nat.{ℕ, zero, suc, _+_, _*_, _≤_}
 use mathlib.Core.Path.{_≡_, refl, ap, sym, _∙_}
-use mathlib.Core.Bool.{Bool, true, false, cond}
+use mathlib.Core.Bool.{Bool, true, false}
 use mathlib.Core.List.{List, _++_}
 use native.Mathlib.Nat.{zero-mul, suc-mul}
 use native.Mathlib.Omega.{arith}
 use lib.ListN.{length, take, drop, length-append, length-drop}
 use lib.Seq.{length-take-le}
 use Rattle.lent.specs.declared.Wrote.{Wrote}
-use Rattle.lent.specs.declared.Wrote.the-variants as wrote
-use Rattle.format.specs.declared.Format.{Format}
-use Rattle.format.specs.declared.FormatLen.the-variants as len
 use Rattle.format.specs.declared.Field.the-variants.{ExtraBytes}
-use Rattle.format.specs.Fields.{restOf, sizes, lenOf}
-use Rattle.format.specs.Laws.{rest-sum, len-is}
+use Rattle.format.specs.Length.{len-is}
 use Rattle.point.specs.declared.Point.{Point}
 use Rattle.point.specs.declared.PointRead.the-variants.{Is}
 use Rattle.point.specs.Read.{pointOf, fieldOf, readOf, extraOf}
-use Rattle.point_bytes.specs.Bytes.{coreOf, legacyCoreOf}
-use Rattle.point_write.specs.Write.{joined, recordOf, flaggedOf, writtenAfter, writtenOf}
-use Rattle.point_write.specs.Laws.{extended-is, legacy-is, rest-length, core-length, legacy-core-length, sized-extended, sized-legacy}
-use Rattle.point_write.specs.Answered.{answered, extra-length}
+use Rattle.point_write.specs.Write.{writtenOf}
+use Rattle.point_write.specs.Taken.{Taken, record-length, taken-written}
+use Rattle.point.specs.Answer.{answered, extra-length}
 use Rattle.strict.specs.declared.Fit.{Fit}
 use Rattle.strict.specs.declared.Fit.the-variants as fit
 use Rattle.strict.specs.Fit.{fitOf}
@@ -36,42 +31,23 @@ use Rattle.judge.specs.Judge.{judgedBy, judgeRun, recordsOf, judgedOf, verdictO
 use Rattle.convert.specs.Run.{turnedOf, imageOf, imagesOf, ran, convertedOf, convertedBy, doneOf}
 use Rattle.convert.specs.Asked.{Takes, TakesRun}
 
--- a point that the writer takes, with as many extra bytes as the format's: the record has the format's length, and is written
-module _ (f : Format) (p : Point) (e : List ℕ) (n : ℕ) (long : lenOf f ≡ len.Is n) (he : length e ≡ f .«extra_bytes») (takes : Takes f p) where
-  sum : (c : Bool) → f .«is_extended» ≡ c → n ≡ cond c 22 20 + length (joined f p e (restOf f))
-  sum c t = len-is f n long ∙ rest-sum f ∙ ap (λ (b : Bool). cond b 22 20 + sizes f (restOf f)) t ∙ ap (λ (k : ℕ). cond c 22 20 + k) (sym (rest-length f p e he))
-
-  pub taken-length : length (recordOf f p e) ≡ n
-  taken-length = go (f .«is_extended») refl
-    where
-      go : (c : Bool) → f .«is_extended» ≡ c → length (recordOf f p e) ≡ n
-      go true t = rw (extended-is f p e t) (length-append (coreOf p) _ ∙ omega (arith, core-length f p e, sum true t))
-      go false t =
-          let w = fits-two p (takes t) in
-          rw (legacy-is f p e (w .0) (w .1) t (w .2)) (length-append (legacyCoreOf p (w .0) (w .1)) _ ∙ omega (arith, legacy-core-length f p e (w .0) (w .1), sum false t))
-
-  pub taken-written : (d : List ℕ) → n ≤ length d → writtenOf f p e d ≡ (wrote.Bytes n, recordOf f p e ++ drop n d)
-  unfolding writtenOf
-  taken-written d room = ap (writtenAfter f p e d) long ∙ go (f .«is_extended») refl
-    where
-      go : (c : Bool) → f .«is_extended» ≡ c → writtenAfter f p e d (len.Is n) ≡ (wrote.Bytes n, recordOf f p e ++ drop n d)
-      go true t = sized-extended f p e n d he room t
-      go false t = sized-legacy f p e n d he room t ∙ ap (flaggedOf f p e n d) (fits-two p (takes t) .2)
-
 -- a whole record of the source that the writer takes: its image has the target's length, and is what the writer leaves
 module _ (up : Bool) (p : Plan) (sound : Sound up p) (s : List ℕ) (whole : length s ≡ p .«source_length») (takes : Takes (p .target) (turnedOf up (pointOf (p .source) s))) where
   extra-kept : length (fieldOf (p .source) ExtraBytes s) ≡ p .target .«extra_bytes»
   extra-kept = extra-length (p .source) s (omega (arith, len-is (p .source) (p .«source_length») (sound .from))) ∙ same-extra up _ _ (sound .mates)
 
+  taken : Taken (p .target) (turnedOf up (pointOf (p .source) s)) (fieldOf (p .source) ExtraBytes s)
+  taken = record { flags = (λ old. fits-two _ (takes old)); extra = extra-kept }
+
   pub image-length : length (imageOf up p s) ≡ p .«target_length»
   unfolding imageOf
-  image-length = taken-length (p .target) _ _ (p .«target_length») (sound .into) extra-kept takes
+  image-length = record-length (p .target) _ _ taken ∙ sym (len-is (p .target) (p .«target_length») (sound .into))
 
   pub image-laid : (d : List ℕ) {ys : List ℕ} {r : Wrote} {q : Point} → p .«target_length» ≤ length d → readOf (p .source) s ≡ Is q → (r, ys) ≡ writtenOf (p .target) (turnedOf up q) (extraOf (p .source) s) d → ys ≡ imageOf up p s ++ drop (p .«target_length») d
   unfolding imageOf
   image-laid d {ys} {r} {q} room is e =
       let a = answered (p .source) s q is in
-      ap (λ (w : Wrote × List ℕ). w .1) (rw (a .point, a .extra) at e ∙ taken-written (p .target) _ _ (p .«target_length») (sound .into) extra-kept takes d room)
+      ap (λ (w : Wrote × List ℕ). w .1) (rw (a .point, a .extra) at e ∙ taken-written (p .target) _ _ taken (p .«target_length») d room (sound .into))
 
 -- where the records fit, the writer takes each of them
 pub takes-old : (p : Plan) (number k : ℕ) (s : List ℕ) → judgeRun (p .source) (p .«source_length») number k s ≡ judged.Fits → TakesRun false p k s

@@ -1,6 +1,8 @@
+-- definitions
 pub mod Readings
 pub mod Bytes
+-- laws
 pub mod Bits
 pub mod Laws
-pub mod Fitted
+-- theorems
 pub mod Theorems

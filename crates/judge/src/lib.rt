@@ -12,8 +12,8 @@ ghost use Rattle.judge.specs.Judge.{fitRead, judgeRun, judgedOf, verdict
 use format::Format;
 use pairs::Plan;
 use pairs::Planned;
-use point::Point;
-use point::PointRead;
+use point::marks::Marks;
+use point::marks::MarksRead;
 use refusal::Refusal;
 use strict::Fit;
 
@@ -126,12 +126,17 @@ fn judge_records(src: &[u8], format: Format, m: usize, count: usize) -> Judged
     Judged::Fits
 }
 
-// Whether a record fits, by the point that its reader answers.
+// Whether a record fits, by what its reader answers of flags, near infrared and angle.
 fn judge_record(src: &[u8], format: Format) -> Fit
     ensures { λ r. ⌜ r ≡ fitRead (readOf format (now (src .entry))) ⌝ }
 {
-    match Point::read_from(src, format) {
-        PointRead::Is(point) => strict::check(point),
-        PointRead::Refused(refusal) => Fit::Refused(refusal),
+    match Marks::read_from(src, format) {
+        MarksRead::Is(marks) => {
+            let flags = marks.flags;
+            let nir = marks.nir;
+            let scan_angle = marks.scan_angle;
+            strict::check_fields(flags, nir, scan_angle)
+        }
+        MarksRead::Refused(refusal) => Fit::Refused(refusal),
     }
 }

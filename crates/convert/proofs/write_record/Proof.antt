@@ -4,7 +4,7 @@ use native.Mathlib.Omega.{arith}
 use borrow.Author.Needs.{needs}
 use Rattle.point.specs.declared.PointRead.the-variants.{Is}
 use Rattle.point.specs.Read.{pointOf}
-use Rattle.point.specs.Whole.{whole-read}
+use Rattle.point.specs.Answer.{read-told}
 use Rattle.convert.specs.Laws.{image-laid}
 use Rattle.convert.proofs.write_record.Statement.{statement}
 use Rattle.convert.proofs.write_record.Tie as tie
@@ -13,7 +13,7 @@ use Rattle.convert.proofs.write_record.Tie as tie
 read-is : (x : tie.After-read-from) → x .read-from .result ≡ Is (pointOf (x .before .before .before .before .before .args .plan .source) (x .before .before .before .before .before .args .src .now))
 read-is x =
     let s = x .before .before .before .before .before in
-    x .read-from .ensures ∙ whole-read (s .args .plan .source) (s .args .src .now) (rw (s .pre .1) (s .pre .0 .from))
+    x .read-from .ensures ∙ read-told (s .args .plan .source) (s .args .src .now) (s .args .plan .«source_length») (s .pre .0 .from) (omega (arith, s .pre .1))
 
 returns : tie.Need-returns
 returns c =

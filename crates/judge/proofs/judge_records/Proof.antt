@@ -7,7 +7,7 @@ use lib.ListN.{length, take, drop}
 use Rattle.lent.specs.Laws.{less-one}
 use Rattle.lent.specs.Records.{record-length}
 use Rattle.point.specs.Read.{pointOf}
-use Rattle.point.specs.Whole.{whole-read}
+use Rattle.point.specs.Answer.{read-told}
 use Rattle.strict.specs.Fit.{fitOf}
 use Rattle.judge.specs.Judge.{fitRead, judgeRun}
 use Rattle.judge.proofs.Turn.{judge-turn, none-left, first-number}
@@ -39,7 +39,7 @@ module _ (x : tie.After-judge-record Inv-loop μ-loop) where
   fit-is : x .judge-record .result ≡ fitOf (pointOf (begun .args .format) (take (turn .loop .at + begun .args .m - turn .loop .at) (drop (turn .loop .at) (begun .args .src .now))))
   fit-is =
       x .judge-record .ensures
-      ∙ ap fitRead (whole-read (begun .args .format) _ (rw (record-length (begun .args .m) (begun .args .src .now) (turn .loop .at) (turn .loop .left) (omega arith) (turn .loop .inv .1)) (begun .pre .0)))
+      ∙ ap fitRead (read-told (begun .args .format) _ (begun .args .m) (begun .pre .0) (omega (arith, record-length (begun .args .m) (begun .args .src .now) (turn .loop .at) (turn .loop .left) (omega arith) (turn .loop .inv .1))))
 
 returns : tie.Need-returns Inv-loop μ-loop
 returns c =
