@@ -4,21 +4,16 @@ use mathlib.Core.Path.{_≡_, refl, ap, sym, _∙_}
 use mathlib.Core.Bool.{Bool}
 use mathlib.Core.List.{List, _++_}
 use native.Mathlib.Omega.{arith}
-use lib.ListN.{length, take, drop, length-drop}
-use lib.Seq.{sets, drop-drop, length-take-le}
-use Rattle.lent.specs.Laws.{laid-turn, less-one}
+use lib.ListN.{length, take, drop}
+use lib.Seq.{sets, drop-drop}
+use Rattle.lent.specs.Laws.{laid-turn}
+use Rattle.lent.specs.Records.{record-length}
 use Rattle.point.specs.Read.{pointOf}
 use Rattle.pairs.specs.declared.Plan.{Plan}
 use Rattle.pairs.specs.Sound.{Sound}
 use Rattle.convert.specs.Run.{turnedOf, imageOf, imagesOf}
 use Rattle.convert.specs.Asked.{Takes, TakesRun}
 use Rattle.convert.specs.Laws.{image-length}
-
--- the record at a place has m bytes
-pub record-length : (m : ℕ) (s : List ℕ) (at left : ℕ) → 0 < left → at + left * m ≤ length s → length (take (at + m - at) (drop at s)) ≡ m
-record-length m s at left more ends =
-    let e : at + m - at ≡ m = omega arith in
-    rw e (length-take-le m (drop at s) (simp length-drop (omega (arith, less-one left m more))))
 
 module _ (up : Bool) (p : Plan) (s : List ℕ) (at left : ℕ) (more : 0 < left) where
   abbrev m : ℕ

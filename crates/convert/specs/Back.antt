@@ -27,7 +27,7 @@ use Rattle.convert.specs.Asked.{TakesRun}
 use Rattle.convert.specs.Demand.{Up, lengthOf, runLength, NotOverlong, Enough, No28, laid}
 use Rattle.judge.specs.Laws.{goes}
 use Rattle.convert.specs.Laws.{image-length, images-length, takes-new}
-use Rattle.convert.specs.Told.{planOf, told-run, told-bytes, plan-of-sound, shorter, down-paired, up-beside, down-told, up-told, way-back}
+use Rattle.convert.specs.Told.{planOf, told-run, told-bytes, plan-of-sound, shorter, down-paired, down-told, up-told, way-back}
 use Rattle.convert.specs.Each.{at-zero, at-suc, written}
 
 module _ {old new : ℕ} (pair : Up old new) (extra : ℕ) where
@@ -35,7 +35,7 @@ module _ {old new : ℕ} (pair : Up old new) (extra : ℕ) where
   paired = down-paired (way-back pair) extra
 
   up-sound : NotOverlong old new extra → Sound true (planOf (formatWith old extra) (formatWith new extra))
-  up-sound long = plan-of-sound true _ _ (long .0) (long .1) paired (up-beside pair extra)
+  up-sound long = plan-of-sound true _ _ (long .0) (long .1) paired
 
   -- the upgraded records fit, and their images in the old format are the records themselves
   run-back : NotOverlong old new extra → (number count : ℕ) (s rest : List ℕ) → le.Bytes s → runLength old extra count ≤ length s → No28 old extra count s → (judgeRun (formatWith new extra) (lengthOf new extra) number count (imagesOf true (planOf (formatWith old extra) (formatWith new extra)) count s ++ rest) ≡ judged.Fits) × (imagesOf false (planOf (formatWith new extra) (formatWith old extra)) count (imagesOf true (planOf (formatWith old extra) (formatWith new extra)) count s ++ rest) ≡ take (runLength old extra count) s)

@@ -9,8 +9,9 @@ use borrow.Author.Tests.{le-ltb, lt-ltb, ltb-true, ltb-false}
 use lib.Dec.{ltb}
 use lib.ListN.{length, drop}
 use Rattle.refusal.specs.declared.Refusal.{Refusal}
-use Rattle.refusal.specs.declared.Refusal.the-variants.{RecordLength, Short, NoRoom}
+use Rattle.refusal.specs.declared.Refusal.the-variants.{Short, NoRoom}
 use Rattle.refusal.specs.Table.{wantedOf}
+use Rattle.format.specs.Length.{len-told, len-refused}
 use Rattle.judge.specs.declared.Judged.{Judged}
 use Rattle.judge.specs.declared.Judged.the-variants as judged
 use Rattle.convert.specs.declared.Converted.{Converted}
@@ -20,7 +21,7 @@ use Rattle.judge.specs.Judge.{judgeRun, judgedOf}
 use Rattle.convert.specs.Run.{imagesOf, ran, convertedOf, toOldOf}
 use Rattle.convert.specs.Demand.{Down, lengthOf, runLength, NotOverlong, Convertible, RefusedFor, no-pair, source-overlong, target-overlong, source-short, no-room, of-record}
 use Rattle.judge.specs.Laws.{goes}
-use Rattle.convert.specs.Told.{planOf, told, told-run, told-bytes, not-bytes, down-told, pair-or-none, none-told}
+use Rattle.convert.specs.Told.{planOf, told, Tells, source-over, target-over, runs, tells, told-run, told-bytes, not-bytes, down-told, pair-or-none, none-told}
 use Rattle.convert.specs.Each.{fits-each, all-fit, first-refused, refused-at, written}
 
 module _ (code extra count : ℕ) (s d : List ℕ) where
@@ -72,12 +73,12 @@ module _ (code extra count : ℕ) (s d : List ℕ) where
         go false false f g h = record-refused long (ltb-false _ _ f) (ltb-false _ _ g) _ refl h
 
     pair-refused : told false (formatWith code extra) (formatWith old extra) count s d ≡ (converted.Refused r j, e) → RefusedFor code extra count s d r j × (e ≡ d)
-    pair-refused = go (ltb 65535 (lengthOf code extra)) (ltb 65535 (lengthOf old extra)) refl refl
+    pair-refused = go (tells false (formatWith code extra) (formatWith old extra) count s d)
       where
-        go : (x y : Bool) → ltb 65535 (lengthOf code extra) ≡ x → ltb 65535 (lengthOf old extra) ≡ y → cond x (converted.Refused (RecordLength (lengthOf code extra)) 0, d) (cond y (converted.Refused (RecordLength (lengthOf old extra)) 0, d) (convertedOf false (planOf (formatWith code extra) (formatWith old extra)) count s d)) ≡ (converted.Refused r j, e) → RefusedFor code extra count s d r j × (e ≡ d)
-        go true y f g h = same-refusal (source-overlong pair (ltb-true _ _ f)) h
-        go false true f g h = same-refusal (target-overlong pair (ltb-false _ _ f) (ltb-true _ _ g)) h
-        go false false f g h = run-refused (ltb-false _ _ f, ltb-false _ _ g) h
+        go : {w : Converted × List ℕ} → Tells false (formatWith code extra) (formatWith old extra) count s d w → w ≡ (converted.Refused r j, e) → RefusedFor code extra count s d r j × (e ≡ d)
+        go (source-over l) h = same-refusal (source-overlong pair l) h
+        go (target-over m l) h = same-refusal (target-overlong pair m l) h
+        go (runs m l) h = run-refused (m, l) h
 
   -- what a run is refused with holds of it, and with what holds of it it is refused; the destination is as it was
   pub refused-then : {r : Refusal} {j : ℕ} {e : List ℕ} → toOldOf code extra count s d ≡ (converted.Refused r j, e) → RefusedFor code extra count s d r j × (e ≡ d)
@@ -89,8 +90,8 @@ module _ (code extra count : ℕ) (s d : List ℕ) where
   pub then-refused : {r : Refusal} {j : ℕ} → RefusedFor code extra count s d r j → toOldOf code extra count s d ≡ (converted.Refused r j, d)
   unfolding convertedOf judgedOf
   then-refused (no-pair none) = none-told code none extra count s d
-  then-refused (source-overlong pair l) = down-told pair extra count s d ∙ rw (lt-ltb 65535 (lengthOf code extra) l)
-  then-refused (target-overlong {old} pair h l) = down-told pair extra count s d ∙ rw (le-ltb 65535 (lengthOf code extra) h, lt-ltb 65535 (lengthOf old extra) l)
+  then-refused (source-overlong pair l) = down-told pair extra count s d ∙ rw (len-refused (formatWith code extra) l)
+  then-refused (target-overlong {old} pair h l) = down-told pair extra count s d ∙ rw (len-told (formatWith code extra) h, len-refused (formatWith old extra) l)
   then-refused (source-short {old} pair long l) =
       down-told pair extra count s d
       ∙ told-run false (formatWith code extra) (formatWith old extra) count s d (long .0) (long .1)

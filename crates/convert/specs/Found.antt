@@ -9,7 +9,6 @@ use Rattle.refusal.specs.declared.Refusal.{Refusal}
 use Rattle.le.specs.Le as le
 use Rattle.strict.specs.Theorems.{first-field-named, refused-only-then, no-old-record-shows-it}
 use Rattle.convert.specs.declared.Converted.the-variants as converted
-use Rattle.pairs.specs.Paired.{old-beside}
 use Rattle.pairs.specs.Pairs.{formatWith}
 use Rattle.convert.specs.Run.{imagesOf, toOldOf}
 use Rattle.pairs.specs.Sound.{Sound}
@@ -24,7 +23,7 @@ module _ {new old : ℕ} (pair : Down new old) (extra count : ℕ) (s d : List �
     down-sound : Sound false (planOf (formatWith new extra) (formatWith old extra))
     down-sound =
         let run = told-bytes false _ _ count s d (sym (down-told pair extra count s d) ∙ h) in
-        plan-of-sound false _ _ (run .0) (run .1) (down-paired pair extra) (old-beside _ _ (down-paired pair extra))
+        plan-of-sound false _ _ (run .0) (run .1) (down-paired pair extra)
 
     down-written : Written false (planOf (formatWith new extra) (formatWith old extra)) count s d n e
     down-written = written false _ count s d (told-bytes false _ _ count s d (sym (down-told pair extra count s d) ∙ h) .2)

@@ -2,7 +2,6 @@ pub mod Run
 pub mod Demand
 pub mod Theorems
 pub mod Asked
-pub mod Moved
 pub mod Laws
 pub mod Told
 pub mod Each

@@ -1,25 +1,25 @@
 -- A run of a pair, by the formats of its codes: where neither record is overlong it goes by their plan.
-use Prim.Native.Nat.{ℕ, _≤_}
+use Prim.Native.Nat.{ℕ, _≤_, _<_}
 use mathlib.Core.Path.{_≡_, refl, ap, sym, subst}
-use mathlib.Core.Bool.{Bool, true, false, cond}
+use mathlib.Core.Bool.{Bool, true, false}
 use mathlib.Core.List.{List}
 use mathlib.Core.Logic.{_⊎_, inl, inr}
 use native.Mathlib.Omega.{arith}
-use borrow.Author.Tests.{le-ltb, ltb-false, eqb-true, eqb-false, ne-eqb}
-use lib.Dec.{eqb, ltb}
+use borrow.Author.Tests.{eqb-true, eqb-false, ne-eqb}
+use lib.Dec.{eqb}
 use Rattle.refusal.specs.declared.Refusal.{Refusal}
 use Rattle.refusal.specs.declared.Refusal.the-variants.{NoPair, RecordLength}
 use Rattle.format.specs.declared.Format.{Format}
-use Rattle.format.specs.declared.FormatLen.the-variants as len
+use Rattle.format.specs.declared.FormatLen.{FormatLen}
 use Rattle.format.specs.Fields.{recordBytes, lenOf}
+use Rattle.format.specs.Length as format
+use Rattle.format.specs.Length.{len-told}
 use Rattle.format.specs.Laws.{record-sum}
-use Rattle.pairs.specs.Paired.{Beside, Paired, Mates, six-one, seven-three, eight-three, nine-four, ten-five}
-use Rattle.pairs.specs.declared.Pair.the-variants.{Formats}
+use Rattle.pairs.specs.Paired.{Paired, Mates, six-one, seven-three, eight-three, nine-four, ten-five}
 use Rattle.pairs.specs.declared.Plan.{Plan}
 use Rattle.convert.specs.declared.Converted.{Converted}
 use Rattle.convert.specs.declared.Converted.the-variants as converted
-use Rattle.format.specs.Codes.{isIn, coded}
-use Rattle.pairs.specs.Pairs.{formatWith, oldPair, newPair, lengthsOf, plannedBy}
+use Rattle.pairs.specs.Pairs.{formatWith, oldPair, newPair, lengthsOf}
 use Rattle.convert.specs.Run.{convertedOf, convertedBy, toOldOf, toNewOf}
 use Rattle.pairs.specs.Sound.{Sound}
 use Rattle.convert.specs.Demand.{Down, from-6, from-7, from-8, from-9, from-10, Up, from-1, from-3, from-4, from-5}
@@ -28,12 +28,9 @@ use Rattle.convert.specs.Demand.{Down, from-6, from-7, from-8, from-9, f
 abbrev pub planOf : Format → Format → Plan
 planOf a b = record { source = a; target = b; «source_length» = recordBytes a; «target_length» = recordBytes b }
 
--- "source, then target record over 65,535 bytes 8", and then by the plan
+-- what a run is told by the lengths of two formats
 abbrev pub told : Bool → Format → Format → ℕ → List ℕ → List ℕ → Converted × List ℕ
-told up a b count s d =
-    cond (ltb 65535 (recordBytes a)) (converted.Refused (RecordLength (recordBytes a)) 0, d)
-    (cond (ltb 65535 (recordBytes b)) (converted.Refused (RecordLength (recordBytes b)) 0, d)
-    (convertedOf up (planOf a b) count s d))
+told up a b count s d = convertedBy up count s d (lengthsOf a b (lenOf a) (lenOf b))
 
 -- a refusal is no count of bytes
 pub not-bytes : {A : Type 0} (r : Refusal) (j n : ℕ) (d e : List ℕ) → _≡_ {A = Converted × List ℕ} (converted.Refused r j, d) (converted.Bytes n, e) → A
@@ -44,30 +41,33 @@ not-bytes r j n d e h =
 
 module _ (up : Bool) (a b : Format) where
   module _ (count : ℕ) (s d : List ℕ) where
-    planned-told : (format : ℕ) → convertedBy up count s d (plannedBy format (Formats a b)) ≡ told up a b count s d
-    unfolding lenOf
-    planned-told format = go (ltb 65535 (recordBytes a)) (ltb 65535 (recordBytes b))
+    -- "source, then target record over 65,535 bytes 8", and then by the plan
+    pub data Tells : Converted × List ℕ → Type 0 where
+      source-over : 65535 < recordBytes a → Tells (converted.Refused (RecordLength (recordBytes a)) 0, d)
+      target-over : recordBytes a ≤ 65535 → 65535 < recordBytes b → Tells (converted.Refused (RecordLength (recordBytes b)) 0, d)
+      runs : recordBytes a ≤ 65535 → recordBytes b ≤ 65535 → Tells (convertedOf up (planOf a b) count s d)
+
+    pub tells : Tells (told up a b count s d)
+    tells = go (format.told a) (format.told b)
       where
-        go : (x y : Bool) → convertedBy up count s d (lengthsOf a b (cond x (len.Refused (RecordLength (recordBytes a))) (len.Is (recordBytes a))) (cond y (len.Refused (RecordLength (recordBytes b))) (len.Is (recordBytes b)))) ≡ cond x (converted.Refused (RecordLength (recordBytes a)) 0, d) (cond y (converted.Refused (RecordLength (recordBytes b)) 0, d) (convertedOf up (planOf a b) count s d))
-        go true y = refl
-        go false true = refl
-        go false false = refl
+        go : {x y : FormatLen} → format.Told a x → format.Told b y → Tells (convertedBy up count s d (lengthsOf a b x y))
+        go (format.over h) y = source-over h
+        go (format.fits h) (format.over l) = target-over h l
+        go (format.fits h) (format.fits l) = runs h l
 
     pub told-run : recordBytes a ≤ 65535 → recordBytes b ≤ 65535 → told up a b count s d ≡ convertedOf up (planOf a b) count s d
-    told-run h l = rw (le-ltb 65535 (recordBytes a) h, le-ltb 65535 (recordBytes b) l)
+    told-run h l = rw (len-told a h, len-told b l)
 
     pub told-bytes : {n : ℕ} {e : List ℕ} → told up a b count s d ≡ (converted.Bytes n, e) → (recordBytes a ≤ 65535) × (recordBytes b ≤ 65535) × (convertedOf up (planOf a b) count s d ≡ (converted.Bytes n, e))
-    told-bytes {n} {e} = go (ltb 65535 (recordBytes a)) (ltb 65535 (recordBytes b)) refl refl
+    told-bytes {n} {e} = go tells
       where
-        go : (x y : Bool) → ltb 65535 (recordBytes a) ≡ x → ltb 65535 (recordBytes b) ≡ y → cond x (converted.Refused (RecordLength (recordBytes a)) 0, d) (cond y (converted.Refused (RecordLength (recordBytes b)) 0, d) (convertedOf up (planOf a b) count s d)) ≡ (converted.Bytes n, e) → (recordBytes a ≤ 65535) × (recordBytes b ≤ 65535) × (convertedOf up (planOf a b) count s d ≡ (converted.Bytes n, e))
-        go true y f g h = not-bytes _ 0 n d e h
-        go false true f g h = not-bytes _ 0 n d e h
-        go false false f g h = (ltb-false _ _ f, ltb-false _ _ g, h)
+        go : {w : Converted × List ℕ} → Tells w → w ≡ (converted.Bytes n, e) → (recordBytes a ≤ 65535) × (recordBytes b ≤ 65535) × (convertedOf up (planOf a b) count s d ≡ (converted.Bytes n, e))
+        go (source-over l) h = not-bytes _ 0 n d e h
+        go (target-over m l) h = not-bytes _ 0 n d e h
+        go (runs m l) h = (m, l, h)
 
-  pub plan-of-sound : recordBytes a ≤ 65535 → recordBytes b ≤ 65535 → Mates up a b → Beside b → Sound up (planOf a b)
-  unfolding lenOf
-  plan-of-sound h l mates beside =
-      record { from = rw (le-ltb 65535 (recordBytes a) h); into = rw (le-ltb 65535 (recordBytes b) l); mates = mates; beside = beside }
+  pub plan-of-sound : recordBytes a ≤ 65535 → recordBytes b ≤ 65535 → Mates up a b → Sound up (planOf a b)
+  plan-of-sound h l mates = record { from = len-told a h; into = len-told b l; mates = mates }
 
 -- the old record of a pair is the shorter
 pub shorter : (new old : Format) → Paired new old → recordBytes old ≤ recordBytes new
@@ -80,28 +80,21 @@ down-paired from-8 = eight-three
 down-paired from-9 = nine-four
 down-paired from-10 = ten-five
 
-pub up-beside : {old new : ℕ} → Up old new → (extra : ℕ) → Beside (formatWith new extra)
-unfolding formatWith coded isIn
-up-beside from-1 extra = refl
-up-beside from-3 extra = refl
-up-beside from-4 extra = refl
-up-beside from-5 extra = refl
-
 -- what a run of a pair is told, on the way down and up
 pub down-told : {new old : ℕ} → Down new old → (extra count : ℕ) (s d : List ℕ) → toOldOf new extra count s d ≡ told false (formatWith new extra) (formatWith old extra) count s d
 unfolding toOldOf oldPair
-down-told from-6 extra count s d = planned-told false (formatWith 6 extra) (formatWith 1 extra) count s d 6
-down-told from-7 extra count s d = planned-told false (formatWith 7 extra) (formatWith 3 extra) count s d 7
-down-told from-8 extra count s d = planned-told false (formatWith 8 extra) (formatWith 3 extra) count s d 8
-down-told from-9 extra count s d = planned-told false (formatWith 9 extra) (formatWith 4 extra) count s d 9
-down-told from-10 extra count s d = planned-told false (formatWith 10 extra) (formatWith 5 extra) count s d 10
+down-told from-6 extra count s d = refl
+down-told from-7 extra count s d = refl
+down-told from-8 extra count s d = refl
+down-told from-9 extra count s d = refl
+down-told from-10 extra count s d = refl
 
 pub up-told : {old new : ℕ} → Up old new → (extra count : ℕ) (s d : List ℕ) → toNewOf old extra count s d ≡ told true (formatWith old extra) (formatWith new extra) count s d
 unfolding toNewOf newPair
-up-told from-1 extra count s d = planned-told true (formatWith 1 extra) (formatWith 6 extra) count s d 1
-up-told from-3 extra count s d = planned-told true (formatWith 3 extra) (formatWith 7 extra) count s d 3
-up-told from-4 extra count s d = planned-told true (formatWith 4 extra) (formatWith 9 extra) count s d 4
-up-told from-5 extra count s d = planned-told true (formatWith 5 extra) (formatWith 10 extra) count s d 5
+up-told from-1 extra count s d = refl
+up-told from-3 extra count s d = refl
+up-told from-4 extra count s d = refl
+up-told from-5 extra count s d = refl
 
 -- the way back from a new format
 pub way-back : {old new : ℕ} → Up old new → Down new old

@@ -9,6 +9,7 @@ use lib.Dec.{T, eqb}
 use lib.ListN.{length, drop, length-drop}
 use lib.Seq.{length-take-le}
 use Rattle.vlr.specs.Vlr.{recordSize}
+use Rattle.vlr.specs.Laws.{record-least}
 use Rattle.header.specs.declared.HeaderAnswer.{HeaderAnswer}
 use Rattle.header.specs.declared.HeaderAnswer.the-variants as answer
 use Rattle.header.specs.Judged.{judged, readOf}
@@ -19,19 +20,14 @@ use Rattle.rules.specs.declared.Checked.the-variants.{Accepted, Refused}
 use Rattle.rules.specs.Rules.{Rule, refusedBy, first, headerRules, recordRules}
 use Rattle.extents.specs.Extents.{pointsEnd, vlrBytes, vlrRules, pointRule, evlrRules, partRules, outlineRules, recordsOf}
 use Rattle.file.specs.Rules.{readable, standardSize, rulesOf, checkedOf}
-use Rattle.extents.specs.Laws.{All}
-use Rattle.file.specs.Holds.{Run, PartsHold, some, records-hold, rules-hold}
+use Rattle.rules.specs.First.{All}
+use Rattle.rules.specs.Records.{Run, records-hold}
+use Rattle.file.specs.Holds.{PartsHold, some, rules-hold}
 
 -- the number of records found whole that an answer carries
 abbrev pub foundOf : Checked → ℕ
 foundOf (Accepted n) = n
 foundOf (Refused r k n) = n
-
--- a record has at least the bytes of a VLR's head
-record-least : (x : Bool) (rest : List ℕ) → 54 ≤ recordSize x rest
-unfolding recordSize
-record-least true rest = omega arith
-record-least false rest = omega arith
 
 pub run-bytes : (x : Bool) (k : ℕ) (rest : List ℕ) → Run x k rest → 54 * k ≤ length rest
 run-bytes x zero rest run = omega arith
@@ -83,12 +79,11 @@ module _ (a most : ℕ) where
 module _ (n minor a : ℕ) (o : Outline) (s : List ℕ) where
   -- the VLRs lie before the points
   pub vlr-bytes : o .«header_size» ≤ o .«offset_to_point_data» → o .«offset_to_point_data» ≤ length s → length (vlrBytes o s) ≡ o .«offset_to_point_data» - o .«header_size»
-  unfolding vlrBytes
   vlr-bytes after inside = length-take-le (o .«offset_to_point_data» - o .«header_size») (drop (o .«header_size») s) (rw length-drop (omega arith))
 
   -- and the EVLRs after them
   sound-evlrs : o .«number_of_variable_length_records» ≤ a → 54 * o .«number_of_variable_length_records» ≤ o .«offset_to_point_data» → o .«offset_to_point_data» ≤ length s → Sound a (length s) (evlrRules a o s)
-  unfolding evlrRules pointsEnd
+  unfolding evlrRules
   sound-evlrs allowed before within = go (eqb (o .«number_of_evlrs») 0)
     where
       fits : Fits a (length s) (o .«number_of_variable_length_records»)
@@ -145,7 +140,7 @@ module _ (n minor a : ℕ) (o : Outline) (s : List ℕ) where
 
   -- all of them, where all rules hold
   pub all-fit : PartsHold n minor a o s → Fits a (length s) (recordsOf o)
-  unfolding recordsOf pointsEnd
+  unfolding recordsOf
   all-fit h = (h .allowed, go (o .«number_of_evlrs») refl)
     where
       vlrs : 54 * o .«number_of_variable_length_records» ≤ o .«offset_to_point_data»

@@ -1,20 +1,11 @@
 -- Flags moved as a group of bits are the flags moved one by one.
-use Prim.Native.Nat.{ℕ, zero, suc, _+_, _*_, _/_, _%_, _<_}
-use mathlib.Core.Path.{_≡_, refl}
+use Prim.Native.Nat.{ℕ, _+_, _*_, _/_, _%_, _<_}
+use mathlib.Core.Path.{_≡_}
 use native.Mathlib.Omega.{arith}
 use lib.Dec.{eqb}
 use Rattle.flags.specs.Readings.{bit}
-use Rattle.flags.specs.Theorems.{low-three}
-use Rattle.flags.specs.Bytes.{flag, oldFirst, oldSecond}
-
-below-two : (n : ℕ) → n < 2 → flag (eqb n 1) ≡ n
-below-two zero h = refl
-below-two (suc zero) h = refl
-below-two (suc (suc n)) h = absurd (omega arith)
-
--- a single bit, as a flag and as a number
-pub flag-bit : (x : ℕ) → flag (eqb (x % 2) 1) ≡ x % 2
-flag-bit x = below-two (x % 2) (omega arith)
+use Rattle.flags.specs.Bits.{low-three, flag-bit}
+use Rattle.flags.specs.Bytes.{oldFirst, oldSecond}
 
 -- direction and edge keep their places
 pub first-moved : (b n r : ℕ) → b < 256 → b / 64 * 64 + n * 8 + r ≡ oldFirst r n (bit 6 b) (bit 7 b)

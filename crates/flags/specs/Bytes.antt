@@ -7,9 +7,8 @@ use Rattle.flags.specs.declared.Flags.{Flags}
 use Rattle.flags.specs.declared.Flags.the-variants.{TwoByte, ThreeByte}
 use Rattle.flags.specs.declared.TwoBytes.{TwoBytes}
 use Rattle.flags.specs.declared.TwoBytes.the-variants.{Bytes, Refused}
-use Rattle.flags.specs.declared.FittedBytes.{FittedBytes}
 use Rattle.flags.specs.declared.ThreeBytes.{ThreeBytes}
-use Rattle.flags.specs.Readings.{low, field, returnNumberOf, numberOfReturnsOf, directionBit, edgeOf, classOf, syntheticOf, keyPointOf, withheldOf, overlapOf, channelOf}
+use Rattle.flags.specs.Readings.{returnNumberOf, numberOfReturnsOf, directionBit, edgeOf, classOf, syntheticOf, keyPointOf, withheldOf, overlapOf, channelOf}
 
 -- a flag as the number of its bit
 abbrev pub flag : Bool → ℕ
@@ -23,6 +22,15 @@ oldFirst returnNumber returns direction edge = returnNumber + 8 * returns + 64 *
 -- byte two of old flags, from what it says
 abbrev pub oldSecond : ℕ → Bool → Bool → Bool → ℕ
 oldSecond class synthetic key withheld = class + 32 * flag synthetic + 64 * flag key + 128 * flag withheld
+
+-- byte one of extended flags, from what it says
+abbrev pub newFirst : ℕ → ℕ → ℕ
+newFirst returnNumber returns = returnNumber + 16 * returns
+
+-- byte two of extended flags, from what it says
+abbrev pub newSecond : Bool → Bool → Bool → Bool → ℕ → Bool → Bool → ℕ
+newSecond synthetic key withheld overlap channel direction edge =
+    flag synthetic + 2 * flag key + 4 * flag withheld + 8 * flag overlap + 16 * channel + 64 * flag direction + 128 * flag edge
 
 -- the old bytes that say what f says, a set overlap flag taking the place of the class as class 12
 unfoldable pub oldBytesOf : Flags → TwoBytes
@@ -39,15 +47,6 @@ twoBytesOf (ThreeByte a b c) =
     (cond (ltb 7 (numberOfReturnsOf f)) (Refused (NumberOfReturns (numberOfReturnsOf f)))
     (cond (ltb 31 (classOf f)) (Refused (Class (classOf f)))
     (cond (ltb 0 (channelOf f)) (Refused (Channel (channelOf f))) (oldBytesOf f))))
-
--- the old bytes of extended flags that fit, from the low bits of what they say
-unfoldable pub fittedOf : ℕ → ℕ → ℕ → FittedBytes
-fittedOf a b c =
-    let f = ThreeByte a b c in
-    record {
-      a = oldFirst (low 3 a) (field 4 3 a) (directionBit f) (edgeOf f);
-      b = oldSecond (cond (overlapOf f) 12 (low 5 c)) (syntheticOf f) (keyPointOf f) (withheldOf f);
-    }
 
 -- extended flags as they are; old ones lose direction and edge, and their byte two becomes the class whole
 unfoldable pub threeBytesOf : Flags → ThreeBytes

@@ -1,4 +1,8 @@
+-- definitions
 pub mod Readings
 pub mod Bytes
-pub mod Fitted
+-- laws
+pub mod Bits
+pub mod Laws
+-- theorems
 pub mod Theorems

@@ -7,6 +7,8 @@ use lib.ListN.{length, take, drop}
 use Rattle.refusal.specs.declared.Refusal.the-variants.{Short, NoRoom}
 use Rattle.refusal.specs.Table.{wantedOf}
 use Rattle.format.specs.declared.Format.{Format}
+use Rattle.point.specs.declared.PointRead.{PointRead}
+use Rattle.point.specs.declared.PointRead.the-variants as read
 use Rattle.point.specs.Read.{pointOf}
 use Rattle.strict.specs.declared.Fit.{Fit}
 use Rattle.strict.specs.declared.Fit.the-variants as fit
@@ -19,6 +21,11 @@ use Rattle.judge.specs.declared.Judged.{Judged}
 use Rattle.judge.specs.declared.Judged.the-variants.{Fits, Refused}
 use Rattle.judge.specs.declared.Verdict.{Verdict}
 use Rattle.judge.specs.declared.Verdict.the-variants as verdict
+
+-- a record that is read is judged by its point
+abbrev pub fitRead : PointRead → Fit
+fitRead (read.Is p) = fitOf p
+fitRead (read.Refused r) = fit.Refused r
 
 -- a record's refusal with its number, or what is said of the records after it
 abbrev pub judgedBy : Fit → ℕ → Judged → Judged

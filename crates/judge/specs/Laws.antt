@@ -1,4 +1,4 @@
--- What a run is that is judged to fit.
+-- What decides of a record, and what a run is that is judged to fit.
 use Prim.Native.Nat.{ℕ, _*_, _≤_}
 use mathlib.Core.Path.{_≡_, refl}
 use mathlib.Core.Bool.{Bool, true, false, cond}
@@ -8,6 +8,14 @@ use borrow.Author.Tests.{ltb-false}
 use lib.Dec.{ltb}
 use lib.ListN.{length}
 use Rattle.refusal.specs.declared.Refusal.{Refusal}
+use Rattle.point.specs.declared.PointRead.{PointRead}
+use Rattle.point.specs.declared.PointRead.the-variants as read
+use Rattle.point.specs.declared.marks.MarksRead.{MarksRead}
+use Rattle.point.specs.declared.marks.MarksRead.the-variants as marks
+use Rattle.point.specs.Marks.{marksRead}
+use Rattle.strict.specs.declared.Fit.{Fit}
+use Rattle.strict.specs.declared.Fit.the-variants as fit
+use Rattle.strict.specs.Fit.{fieldsFit, fitOf}
 use Rattle.pairs.specs.declared.Plan.{Plan}
 use Rattle.pairs.specs.declared.Planned.{Planned}
 use Rattle.pairs.specs.declared.Planned.the-variants as planned
@@ -16,7 +24,17 @@ use Rattle.judge.specs.declared.Judged.{Judged}
 use Rattle.judge.specs.declared.Judged.the-variants as judged
 use Rattle.judge.specs.declared.Verdict.{Verdict}
 use Rattle.judge.specs.declared.Verdict.the-variants as verdict
-use Rattle.judge.specs.Judge.{recordsOf, judgedOf, verdictOn, verdictBy}
+use Rattle.judge.specs.Judge.{fitRead, recordsOf, judgedOf, verdictOn, verdictBy}
+
+-- a record's marks are enough to judge it
+abbrev pub fitMarks : MarksRead → Fit
+fitMarks (marks.Is m) = fieldsFit (m .flags) (m .nir) (m .«scan_angle»)
+fitMarks (marks.Refused r) = fit.Refused r
+
+pub marks-enough : (x : PointRead) → fitMarks (marksRead x) ≡ fitRead x
+unfolding fitOf
+marks-enough (read.Is p) = refl
+marks-enough (read.Refused r) = refl
 
 module _ (up : Bool) (p : Plan) (count : ℕ) (s : List ℕ) (room : ℕ) where
   pub record Goes : Type 0 where

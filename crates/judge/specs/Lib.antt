@@ -1,3 +1,2 @@
 pub mod Judge
 pub mod Laws
-pub mod Core

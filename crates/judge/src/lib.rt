@@ -1,21 +1,19 @@
 // Whether a whole run of point records goes, as document 01 orders it: by its pair of formats, by the lengths of source and
 // destination, and on its way down by each of its records.
 ghost use mathlib.Core.Path.{_≡_};
-ghost use mathlib.Core.Bool.{true};
 ghost use Prim.Native.Nat.{_*_, _≤_, _<_};
 ghost use lib.ListN.{length};
 ghost use Rattle.refusal.specs.Table.{wantedOf};
-ghost use Rattle.point.specs.Read.{pointOf};
-ghost use Rattle.strict.specs.Fit.{fitOf};
+ghost use Rattle.format.specs.declared.FormatLen.the-variants as len;
+ghost use Rattle.format.specs.Fields.{lenOf};
+ghost use Rattle.point.specs.Read.{readOf};
 ghost use Rattle.pairs.specs.Sound.{Sound, PlannedSound};
-ghost use Rattle.judge.specs.Core.{coreFit};
-ghost use Rattle.judge.specs.Judge.{judgeRun, judgedOf, verdictBy, oldVerdict, newVerdict};
-use angle::ScanAngle;
-use flags::Flags;
+ghost use Rattle.judge.specs.Judge.{fitRead, judgeRun, judgedOf, verdictBy, oldVerdict, newVerdict};
 use format::Format;
 use pairs::Plan;
 use pairs::Planned;
-use point::MaybeNir;
+use point::marks::Marks;
+use point::marks::MarksRead;
 use refusal::Refusal;
 use strict::Fit;
 
@@ -97,20 +95,20 @@ fn judge(src: &[u8], plan: Plan, count: usize, up: bool, room: usize) -> Judged
     judge_records(src, plan.source, plan.source_length, count)
 }
 
-// A number of bytes, 0 if it is over 2^64 - 1.
-fn wanted(count: usize, length: usize) -> u64
-    requires { ⌜ 0 < «length» ⌝ }
-    ensures { λ r. ⌜ r ≡ wantedOf (count * «length») ⌝ }
+// The bytes of `count` records of m bytes, 0 if they are over 2^64 - 1.
+fn wanted(count: usize, m: usize) -> u64
+    requires { ⌜ 0 < m ⌝ }
+    ensures { λ r. ⌜ r ≡ wantedOf (count * m) ⌝ }
 {
-    if 18446744073709551615 / length < count {
+    if 18446744073709551615 / m < count {
         return 0;
     }
-    (count * length) as u64
+    (count * m) as u64
 }
 
-// The first record that does not fit, with its number. Only new formats go down.
+// The first record that does not fit, with its number.
 fn judge_records(src: &[u8], format: Format, m: usize, count: usize) -> Judged
-    requires { ⌜ (count * m ≤ length (now src)) × (22 ≤ m) × (format .«is_extended» ≡ true) ⌝ }
+    requires { ⌜ (lenOf format ≡ len.Is m) × (count * m ≤ length (now src)) ⌝ }
     ensures { λ r. ⌜ r ≡ judgeRun format m 1 count (now (src .entry)) ⌝ }
 {
     let mut at = 0;
@@ -128,23 +126,17 @@ fn judge_records(src: &[u8], format: Format, m: usize, count: usize) -> Judged
     Judged::Fits
 }
 
-// Whether a record fits, by the three fields that decide it.
+// Whether a record fits, by what its reader answers of flags, near infrared and angle.
 fn judge_record(src: &[u8], format: Format) -> Fit
-    requires { ⌜ (22 ≤ length (now src)) × (format .«is_extended» ≡ true) ⌝ }
-    ensures { λ r. ⌜ r ≡ fitOf (pointOf format (now (src .entry))) ⌝ }
+    ensures { λ r. ⌜ r ≡ fitRead (readOf format (now (src .entry))) ⌝ }
 {
-    judge_core(&src[..22], point::nir_in(src, format))
-}
-
-// The same by what stands before the time, and by the near infrared.
-fn judge_core(core: &[u8], nir: MaybeNir) -> Fit
-    ensures { λ r. ⌜ r ≡ coreFit (now (core .entry)) nir ⌝ }
-{
-    let flags = Flags::ThreeByte(
-        le::u8_at(core, 14),
-        le::u8_at(core, 15),
-        le::u8_at(core, 16),
-    );
-    let scan_angle = ScanAngle::Scaled(le::i16_at(core, 18));
-    strict::check_fields(flags, nir, scan_angle)
+    match Marks::read_from(src, format) {
+        MarksRead::Is(marks) => {
+            let flags = marks.flags;
+            let nir = marks.nir;
+            let scan_angle = marks.scan_angle;
+            strict::check_fields(flags, nir, scan_angle)
+        }
+        MarksRead::Refused(refusal) => Fit::Refused(refusal),
+    }
 }

@@ -1,9 +1,11 @@
 -- What the two formats of a pair have in common.
 use Prim.Native.Nat.{ℕ}
 use mathlib.Core.Path.{_≡_, refl}
-use mathlib.Core.Bool.{Bool, true, false, _&&_}
+use mathlib.Core.Bool.{Bool, true, false}
 use Rattle.format.specs.declared.Format.{Format}
-use Rattle.format.specs.Codes.{isIn, coded}
+use Rattle.format.specs.Format.{withExtra}
+use Rattle.format.specs.Codes.{coded}
+use Rattle.format.specs.Attributes.{attributes, code-attributes}
 use Rattle.pairs.specs.Pairs.{formatWith}
 
 -- a new format and the old one of its pair: the same but for their kind, the near infrared and nothing else
@@ -16,40 +18,31 @@ pub record Paired (new old : Format) : Type 0 where
   pub no-nir : old .«has_nir» ≡ false
   pub extra : new .«extra_bytes» ≡ old .«extra_bytes»
 
--- the two formats of a pair of codes
-pair-paired : (new old extra : ℕ) → coded new false .«is_extended» ≡ true → coded old false .«is_extended» ≡ false → coded new false .«has_gps_time» ≡ coded old false .«has_gps_time» → coded new false .«has_color» ≡ coded old false .«has_color» → coded new false .«has_waveform» ≡ coded old false .«has_waveform» → coded old false .«has_nir» ≡ false → Paired (formatWith new extra) (formatWith old extra)
-unfolding formatWith
-pair-paired new old extra is-new is-old time color waveform nir =
-    record { is-new = is-new; is-old = is-old; time = time; color = color; waveform = waveform; no-nir = nir; extra = refl }
+-- such a pair, with as many extra bytes on both sides
+attributes-paired : (time color nir waveform : Bool) (extra : ℕ) → Paired (withExtra extra (attributes true time color nir waveform)) (withExtra extra (attributes false time color false waveform))
+attributes-paired time color nir waveform extra =
+    record { is-new = refl; is-old = refl; time = refl; color = refl; waveform = refl; no-nir = refl; extra = refl }
 
--- document 01's pairs
+-- document 01's pairs, by what each code stands for
 module _ (extra : ℕ) where
+  by-codes : (new old : ℕ) (time color nir waveform : Bool) → coded new false ≡ attributes true time color nir waveform → coded old false ≡ attributes false time color false waveform → Paired (formatWith new extra) (formatWith old extra)
+  unfolding formatWith
+  by-codes new old time color nir waveform n o = rw (n, o) (attributes-paired time color nir waveform extra)
+
   pub six-one : Paired (formatWith 6 extra) (formatWith 1 extra)
-  unfolding coded isIn
-  six-one = pair-paired 6 1 extra refl refl refl refl refl refl
+  six-one = by-codes 6 1 true false false false (code-attributes .6) (code-attributes .1)
 
   pub seven-three : Paired (formatWith 7 extra) (formatWith 3 extra)
-  unfolding coded isIn
-  seven-three = pair-paired 7 3 extra refl refl refl refl refl refl
+  seven-three = by-codes 7 3 true true false false (code-attributes .7) (code-attributes .3)
 
   pub eight-three : Paired (formatWith 8 extra) (formatWith 3 extra)
-  unfolding coded isIn
-  eight-three = pair-paired 8 3 extra refl refl refl refl refl refl
+  eight-three = by-codes 8 3 true true true false (code-attributes .8) (code-attributes .3)
 
   pub nine-four : Paired (formatWith 9 extra) (formatWith 4 extra)
-  unfolding coded isIn
-  nine-four = pair-paired 9 4 extra refl refl refl refl refl refl
+  nine-four = by-codes 9 4 true false false true (code-attributes .9) (code-attributes .4)
 
   pub ten-five : Paired (formatWith 10 extra) (formatWith 5 extra)
-  unfolding coded isIn
-  ten-five = pair-paired 10 5 extra refl refl refl refl refl refl
-
--- where there is a near infrared there is a colour, as in every format of the standard
-abbrev pub Beside : Format → Type 0
-Beside f = (f .«has_nir» && f .«has_color») ≡ f .«has_nir»
-
-pub old-beside : (new old : Format) → Paired new old → Beside old
-old-beside new old pair = rw (pair .no-nir)
+  ten-five = by-codes 10 5 true true true true (code-attributes .10) (code-attributes .5)
 
 -- source and target of a run that goes up, or down
 abbrev pub Mates : Bool → Format → Format → Type 0

@@ -14,16 +14,14 @@ use Rattle.pairs.specs.declared.Pair.the-variants.{Formats, None}
 use Rattle.pairs.specs.declared.Plan.{Plan}
 use Rattle.pairs.specs.declared.Planned.{Planned}
 use Rattle.pairs.specs.declared.Planned.the-variants as planned
-use Rattle.format.specs.Codes.{isIn, coded}
-use Rattle.pairs.specs.Pairs.{formatWith, oldPair, newPair, lengthsOf, plannedBy}
-use Rattle.pairs.specs.Paired.{Beside, Mates, six-one, seven-three, eight-three, nine-four, ten-five}
+use Rattle.pairs.specs.Pairs.{oldPair, newPair, lengthsOf, plannedBy}
+use Rattle.pairs.specs.Paired.{Mates, six-one, seven-three, eight-three, nine-four, ten-five}
 
--- the lengths are the formats', the formats are a pair, and a near infrared comes beside a colour
+-- the lengths are the formats', and the formats are a pair
 pub record Sound (up : Bool) (p : Plan) : Type 0 where
   pub from : lenOf (p .source) ≡ len.Is (p .«source_length»)
   pub into : lenOf (p .target) ≡ len.Is (p .«target_length»)
   pub mates : Mates up (p .source) (p .target)
-  pub beside : Beside (p .target)
 
 -- so the extra bytes are as many on both sides
 pub same-extra : (up : Bool) (a b : Format) → Mates up a b → a .«extra_bytes» ≡ b .«extra_bytes»
@@ -32,7 +30,7 @@ same-extra false a b m = m .extra
 
 -- the formats that are found are such a pair
 abbrev PairSound : Bool → Pair → Type 0
-PairSound up (Formats a b) = Mates up a b × Beside b
+PairSound up (Formats a b) = Mates up a b
 PairSound up None = Unit
 
 -- what holds of two pairs holds of whichever is chosen
@@ -44,15 +42,15 @@ pub not-up : {A : Type 0} → _≡_ {A = Bool} false true → A
 not-up z = let y : _≡_ {A = ℕ} 0 1 = ap (λ (b : Bool). cond b 1 0) z in absurd (omega arith)
 
 old-sound : (n extra : ℕ) → PairSound false (oldPair n extra)
-unfolding oldPair formatWith coded isIn
+unfolding oldPair
 old-sound n extra =
-    either (PairSound false) (eqb n 6) _ _ (six-one extra, refl) (either (PairSound false) (eqb n 7) _ _ (seven-three extra, refl) (either (PairSound false) (eqb n 8) _ _ (eight-three extra, refl) (either (PairSound false) (eqb n 9) _ _ (nine-four extra, refl) (either (PairSound false) (eqb n 10) _ None (ten-five extra, refl) tt))))
+    either (PairSound false) (eqb n 6) _ _ (six-one extra) (either (PairSound false) (eqb n 7) _ _ (seven-three extra) (either (PairSound false) (eqb n 8) _ _ (eight-three extra) (either (PairSound false) (eqb n 9) _ _ (nine-four extra) (either (PairSound false) (eqb n 10) _ None (ten-five extra) tt))))
 
 new-sound : (n extra : ℕ) → PairSound true (newPair n extra)
-unfolding newPair formatWith coded isIn
+unfolding newPair
 new-sound n extra =
-    either (PairSound true) (eqb n 1) _ _ (six-one extra, refl) (either (PairSound true) (eqb n 3) _ _ (seven-three extra, refl)
-    (either (PairSound true) (eqb n 4) _ _ (nine-four extra, refl) (either (PairSound true) (eqb n 5) _ None (ten-five extra, refl) tt)))
+    either (PairSound true) (eqb n 1) _ _ (six-one extra) (either (PairSound true) (eqb n 3) _ _ (seven-three extra)
+    (either (PairSound true) (eqb n 4) _ _ (nine-four extra) (either (PairSound true) (eqb n 5) _ None (ten-five extra) tt)))
 
 -- a plan that is made of a pair is sound
 plan-sound : (up : Bool) (format : ℕ) (pair : Pair) (p : Plan) → PairSound up pair → plannedBy format pair ≡ planned.Is p → Sound up p
@@ -61,7 +59,7 @@ plan-sound up format (Formats a b) p h = go (lenOf a) (lenOf b) refl refl
     go : (x y : FormatLen) → lenOf a ≡ x → lenOf b ≡ y → lengthsOf a b x y ≡ planned.Is p → Sound up p
     go (len.Is m) (len.Is n) f g e =
         let same : record { source = a; target = b; «source_length» = m; «target_length» = n } ≡ p = cc in
-        rw (← same) (record { from = f; into = g; mates = h .0; beside = h .1 })
+        rw (← same) (record { from = f; into = g; mates = h })
     go (len.Is m) (len.Refused r) f g e = let z : _≡_ {A = ℕ} 0 1 = cc in absurd (omega arith)
     go (len.Refused r) y f g e = let z : _≡_ {A = ℕ} 0 1 = cc in absurd (omega arith)
 plan-sound up format None p h = λ e. let z : _≡_ {A = ℕ} 0 1 = cc in absurd (omega arith)

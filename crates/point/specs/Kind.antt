@@ -1,4 +1,5 @@
--- Flags and angle of a point by the format's kind: new records have three bytes of flags and a scaled angle, old ones two and a rank.
+-- Fields of a point by the format's kind: new records have three bytes of flags and a scaled angle, old ones two and a rank; a
+-- format without a near infrared has none.
 use Prim.Native.Nat.{ℕ}
 use mathlib.Core.Path.{_≡_}
 use mathlib.Core.Bool.{true, false}
@@ -9,7 +10,8 @@ use Rattle.le.specs.Le.{num}
 use Rattle.format.specs.declared.Format.{Format}
 use Rattle.flags.specs.declared.Flags.the-variants.{TwoByte, ThreeByte}
 use Rattle.angle.specs.declared.ScanAngle.the-variants.{Rank, Scaled}
-use Rattle.point.specs.Read.{flagsAt, angleAt, pointOf}
+use Rattle.point.specs.declared.MaybeNir.the-variants.{None}
+use Rattle.point.specs.Read.{flagsAt, angleAt, nirAt, pointOf}
 
 module _ (f : Format) (s : List ℕ) where
   pub new-flags : f .«is_extended» ≡ true → pointOf f s .flags ≡ ThreeByte (num 1 14 s) (num 1 15 s) (num 1 16 s)
@@ -27,3 +29,7 @@ module _ (f : Format) (s : List ℕ) where
   pub old-angle : f .«is_extended» ≡ false → pointOf f s .«scan_angle» ≡ Rank (toZ w8 (num 1 16 s))
   unfolding pointOf angleAt
   old-angle old = rw old
+
+  pub no-nir : f .«has_nir» ≡ false → pointOf f s .nir ≡ None
+  unfolding pointOf nirAt
+  no-nir none = rw none

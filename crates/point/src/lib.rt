@@ -1,4 +1,6 @@
 // A point record, read. From src/raw/point.rs of las 0.11.2: `Waveform`, `Point`, `read_from`, and `Color` from its color.rs.
+pub mod marks;
+
 ghost use mathlib.Core.Path.{_≡_};
 ghost use mathlib.Core.Bool.{cond};
 ghost use mathlib.Core.List.{[]};
@@ -114,14 +116,6 @@ impl Point {
             nir: MaybeNir::None,
         }
     }
-}
-
-// The near infrared alone, in the first bytes of s; a byte past the end counts as 0.
-pub fn nir_in(s: &[u8], format: Format) -> MaybeNir
-    ensures { λ r. ⌜ r ≡ pointOf format (now (s .entry)) .nir ⌝ }
-{
-    let places = layout::places_for(format);
-    nir_at(s, format.has_nir, places.nir)
 }
 
 // The point's extra bytes, as a part of s; none where the read is refused.
@@ -271,7 +265,7 @@ fn waveform_at(s: &[u8], has: bool, at: usize) -> MaybeWaveform
 
 impl Waveform {
     // The waveform in the first bytes of s; a byte past the end counts as 0.
-    pub fn read_from(s: &[u8]) -> Waveform
+    fn read_from(s: &[u8]) -> Waveform
         ensures { λ r. ⌜ r ≡ waveformAt 0 (now (s .entry)) ⌝ }
     {
         let location = le::f32_at(s, 13);

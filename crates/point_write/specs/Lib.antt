@@ -1,11 +1,14 @@
+-- definitions
 pub mod Write
-pub mod Laws
-pub mod Back
-pub mod Answered
-pub mod Past
 pub mod Held
+-- laws
+pub mod Laws
+pub mod Taken
+pub mod Answered
+pub mod Back
 pub mod Found
-pub mod Places
 pub mod Again
+pub mod Past
 pub mod Accepted
+-- theorems
 pub mod Theorems

@@ -7,8 +7,7 @@ use Rattle.flags.specs.declared.Flags.{Flags}
 use Rattle.flags.specs.declared.Flags.the-variants.{ThreeByte}
 use Rattle.flags.specs.Readings.{bit}
 use Rattle.flags.specs.Bytes.{flag}
-use Rattle.flags.specs.Theorems.{cut}
-use Rattle.flags.proofs.Moved.{flag-bit}
+use Rattle.flags.specs.Bits.{cut, flag-bit}
 use Rattle.strict.specs.Upgrade.{newFirst, newSecond}
 
 module _ (a b : ℕ) (h : a < 256) (l : b < 256) where

@@ -14,7 +14,6 @@ use Rattle.flags.specs.declared.TwoBytes.the-variants.{Bytes}
 use Rattle.flags.specs.Readings.{bit, classOf}
 use Rattle.flags.specs.Bytes.{oldFirst, oldSecond, twoBytesOf}
 use Rattle.flags.specs.Theorems.{old-first-whole, old-second-whole, readings-agree}
-use Rattle.flags.proofs.Moved.{flag-bit}
 use Rattle.angle.specs.declared.ScanAngle.the-variants.{Rank, Scaled}
 use Rattle.angle.specs.Angle.{toScaled}
 use Rattle.angle.specs.Theorems.{nearest-back}
@@ -38,19 +37,12 @@ same-bit true false e = let z : _≡_ {A = ℕ} 0 1 = cc in absurd (omega arith)
 same-bit false true e = let z : _≡_ {A = ℕ} 0 1 = cc in absurd (omega arith)
 same-bit false false e = refl
 
--- a byte is made of what it says
-first-again : (x : ℕ) → x < 256 → oldFirst (x % 8) (x / 8 % 8) (bit 6 x) (bit 7 x) ≡ x
-first-again x h = omega (arith, old-first-whole x h, flag-bit (x / 64), flag-bit (x / 128))
-
-second-again : (y : ℕ) → y < 256 → oldSecond (y % 32) (bit 5 y) (bit 6 y) (bit 7 y) ≡ y
-second-again y h = omega (arith, old-second-whole y h, flag-bit (y / 32), flag-bit (y / 64), flag-bit (y / 128))
-
 -- two bytes that show extended flags whole are what the plain conversion gives
 pub shown-bytes : (a b c x y : ℕ) → x < 256 → y < 256 → Shown (ThreeByte a b c) (TwoByte x y) → twoBytesOf (ThreeByte a b c) ≡ Bytes x y
 shown-bytes a b c x y h l s =
     bytes-of-fitting a b c (shown-fits (ThreeByte a b c) x y s)
     ∙ sym (λ i. Bytes (oldFirst (s .return-number i) (s .number-of-returns i) (same-bit (bit 6 x) (bit 6 b) (s .direction) i) (s .edge i)) (oldSecond (s .class i) (s .synthetic i) (s .key-point i) (s .withheld i)))
-    ∙ (λ i. Bytes (first-again x h i) (second-again y l i))
+    ∙ sym (λ i. Bytes (old-first-whole x y h i) (old-second-whole x y l i))
 
 module _ (a b : ℕ) where
   first-made : NewFirst (newFirst (a % 8) (a / 8 % 8)) (a % 8) (a / 8 % 8)

@@ -11,7 +11,8 @@ use Rattle.flags.specs.declared.Flags.the-variants.{TwoByte, ThreeByte}
 use Rattle.flags.specs.declared.ScanDirection.the-variants.{RightToLeft, LeftToRight}
 use Rattle.flags.specs.declared.TwoBytes.the-variants.{Bytes}
 use Rattle.flags.specs.Readings.{returnNumberOf, numberOfReturnsOf, directionBit, edgeOf, classOf, syntheticOf, keyPointOf, withheldOf, overlapOf, channelOf}
-use Rattle.flags.specs.Bytes.{oldFirst, oldSecond, oldBytesOf, twoBytesOf}
+use Rattle.flags.specs.Bytes.{oldFirst, oldSecond, twoBytesOf}
+use Rattle.flags.specs.Laws.{two-kept, two-fits}
 use Rattle.strict.specs.declared.Fit.{Fit}
 use Rattle.strict.specs.declared.Fit.the-variants.{Fits, Refused}
 use Rattle.strict.specs.Fit.{overlapGoes, readingsFit, flagsFitOf}
@@ -128,20 +129,21 @@ module _ (a b c : ℕ) (fits : flagsFitOf (ThreeByte a b c) ≡ Fits) where
   class-kept false e = refl
 
   pub bytes-of-fitting : twoBytesOf f ≡ Bytes (oldFirst (returnNumberOf f) (numberOfReturnsOf f) (directionBit f) (edgeOf f)) (oldSecond c (syntheticOf f) (keyPointOf f) (withheldOf f))
-  unfolding twoBytesOf oldBytesOf
   bytes-of-fitting =
-      rw (le-ltb 7 _ (fitting .return-number), le-ltb 7 _ (fitting .number-of-returns), le-ltb 31 c (fitting .class-fits), le-ltb 0 (channelOf f) (omega (arith, fitting .no-channel)), class-kept (overlapOf f) (overlap-read .1))
+      let said = fitting in
+      two-fits a b c (said .return-number) (said .number-of-returns) (said .class-fits) (omega (arith, said .no-channel))
+      ∙ rw (class-kept (overlapOf f) (overlap-read .1))
 
 -- flags that fit are shown whole by the two bytes of the plain conversion
 pub fits-down : (f : Flags) → flagsFitOf f ≡ Fits → Down f
-unfolding flagsFitOf twoBytesOf
+unfolding flagsFitOf
 fits-down (TwoByte a b) fits =
     let said = fits-fitting _ _ _ _ _ fits in
     let overlap = goes-read (b % 32) (eqb (b % 16) 12) (said .class-fits) (said .goes) in
     record {
       first = a;
       second = b;
-      bytes = refl;
+      bytes = two-kept a b;
       shown = record {
         return-number = refl;
         number-of-returns = refl;

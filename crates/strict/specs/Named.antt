@@ -25,8 +25,8 @@ use Rattle.angle.specs.Angle.{nearestRank, toScaled}
 use Rattle.point.specs.declared.MaybeNir.{MaybeNir}
 use Rattle.point.specs.declared.MaybeNir.the-variants.{Some, None}
 use Rattle.point.specs.declared.Point.{Point}
-use Rattle.point.specs.Read.{nirAt, pointOf}
-use Rattle.point.specs.Kind.{old-flags, old-angle}
+use Rattle.point.specs.Read.{pointOf}
+use Rattle.point.specs.Kind.{old-flags, old-angle, no-nir}
 use Rattle.strict.specs.declared.Fit.{Fit}
 use Rattle.strict.specs.declared.Fit.the-variants.{Fits, Refused}
 use Rattle.strict.specs.Fit.{firstOf, overlapGoes, readingsFit, flagsFitOf, nirFitOf, rankFits, scaledFitOf, angleFitOf, fitOf}
@@ -35,18 +35,13 @@ use Rattle.strict.specs.Shown.{exactRank, nirNumber, Same, Never, Unshow
 use Rattle.strict.specs.Laws.{not-refused, past, last, read-goes}
 use Rattle.strict.specs.Whole.{exact-fits}
 
--- what an old record says of near infrared and angle
-module _ (old : Format) (t : List ℕ) where
-  old-nir : old .«has_nir» ≡ false → nirNumber (pointOf old t .nir) ≡ 0
-  unfolding pointOf nirAt
-  old-nir no-nir = rw no-nir
-
-  old-rank : old .«is_extended» ≡ false → le.Bytes t → (r : ℤ) × SFits w8 r × (pointOf old t .«scan_angle» ≡ Rank r)
-  old-rank is-old bytes =
-      (toZ w8 (num 1 16 t), toZ-fits w8 (num 1 16 t) (record { fits = num-lt 1 t 16 bytes }), old-angle old t is-old)
+-- the angle of an old record is a rank
+old-rank : (old : Format) (t : List ℕ) → old .«is_extended» ≡ false → le.Bytes t → (r : ℤ) × SFits w8 r × (pointOf old t .«scan_angle» ≡ Rank r)
+old-rank old t is-old bytes =
+    (toZ w8 (num 1 16 t), toZ-fits w8 (num 1 16 t) (record { fits = num-lt 1 t 16 bytes }), old-angle old t is-old)
 
 -- what each test of the chain names
-module _ (old : Format) (is-old : old .«is_extended» ≡ false) (no-nir : old .«has_nir» ≡ false) (p : Point) (why : Refusal) where
+module _ (old : Format) (is-old : old .«is_extended» ≡ false) (without : old .«has_nir» ≡ false) (p : Point) (why : Refusal) where
   -- a number above its limit is no number up to it
   large : (limit n : ℕ) → ltb limit n ≡ true → (m : ℕ) → m < suc limit → m ≡ n → ⊥
   large limit n t m h e = omega (arith, ltb-true limit n t)
@@ -78,7 +73,7 @@ module _ (old : Format) (is-old : old .«is_extended» ≡ false) (no-nir : old 
   nir-named : (n : MaybeNir) → p .nir ≡ n → nirFitOf n ≡ Refused why → Unshown old p why
   nir-named (Some n) is e =
       let same : nirNumber (p .nir) ≡ n = ap nirNumber is in
-      last (Unshown old p) why (eqb n 0) (Nir n) (λ t. subst (λ (m : ℕ). Unshown old p (Nir m)) same (nir (λ b _ z. eqb-false n 0 t (sym same ∙ sym z ∙ old-nir old b no-nir)))) e
+      last (Unshown old p) why (eqb n 0) (Nir n) (λ t. subst (λ (m : ℕ). Unshown old p (Nir m)) same (nir (λ b _ z. eqb-false n 0 t (sym same ∙ sym z ∙ ap nirNumber (no-nir old b without))))) e
   nir-named None is e = not-refused why (sym e)
 
   angle-named : (a : ScanAngle) → p .«scan_angle» ≡ a → angleFitOf a ≡ Refused why → Unshown old p why

@@ -1,43 +1,44 @@
 -- What an old record is read as, of a point that fits; and an old point brought up and written down again.
 use Prim.Native.Nat.{ℕ, _*_, _/_, _<_, _≤_}
 use mathlib.Core.Path.{_≡_, refl, ap, sym, subst, _∙_}
-use mathlib.Core.Bool.{Bool, true, false, cond}
+use mathlib.Core.Bool.{Bool, true, false}
 use mathlib.Core.List.{List, _++_}
 use native.Mathlib.Omega.{arith}
-use borrow.Author.Tests.{ltb-false}
-use lib.IntN.{ℤ, pos, negsuc, natAbs}
+use lib.IntN.{natAbs}
 use lib.ListN.{length, take}
-use lib.Signed.{ltZ, natAbs-le}
-use mir.Syntax.{w8, w16}
-use mir.Val.{SFits}
+use lib.Signed.{natAbs-le}
+use mir.Syntax.{w16}
 use Rattle.le.specs.Le.{Bytes}
 use Rattle.format.specs.declared.Format.{Format}
-use Rattle.format.specs.declared.Field.the-variants.{ExtraBytes}
-use Rattle.format.specs.Fields.{restOf, recordBytes}
+use Rattle.format.specs.declared.Field.{Field}
+use Rattle.format.specs.declared.Field.the-variants.{X, Y, Z, Intensity, Flags, UserData, ScanAngle, PointSourceId, GpsTime, Color, Nir, Waveform, ExtraBytes}
+use Rattle.format.specs.Fields.{hasOf, recordBytes}
 use Rattle.flags.specs.declared.Flags as flags
 use Rattle.flags.specs.declared.Flags.the-variants.{TwoByte, ThreeByte}
 use Rattle.flags.specs.declared.TwoBytes.{TwoBytes}
 use Rattle.flags.specs.declared.TwoBytes.the-variants as two
 use Rattle.flags.specs.Readings.{returnNumberOf, numberOfReturnsOf, directionBit, edgeOf, classOf, syntheticOf, keyPointOf, withheldOf}
 use Rattle.flags.specs.Bytes.{twoBytesOf}
+use Rattle.flags.specs.Laws.{two-kept}
 use Rattle.angle.specs.declared.ScanAngle as angle
 use Rattle.angle.specs.declared.ScanAngle.the-variants.{Rank, Scaled}
-use Rattle.angle.specs.Angle.{held, rankOf, toRank, toScaled}
+use Rattle.angle.specs.Angle.{toRank, toScaled}
+use Rattle.angle.specs.Ranks.{rank-fits}
 use Rattle.angle.specs.Sign.{scaled-size, sided-fits}
 use Rattle.angle.specs.Theorems.{rank-kept}
 use Rattle.point.specs.declared.MaybeNir.{MaybeNir}
 use Rattle.point.specs.declared.MaybeNir.the-variants.{Some, None}
 use Rattle.point.specs.declared.Point.{Point}
 use Rattle.point.specs.Read.{fieldOf, pointOf}
-use Rattle.point_bytes.specs.Bytes.{timeBytes, colorBytes, legacyCoreOf}
-use Rattle.point_write.specs.Write.{joined, onlyBytes, recordOf}
-use Rattle.point_write.specs.Laws.{fromNir, legacy-is, rest-is}
+use Rattle.point_write.specs.Write.{twoList, fieldBytes, recordOf}
+use Rattle.point_write.specs.Taken.{record-same}
 use Rattle.point_write.specs.Held.{FlagsHeld, AngleHeld, TimeHeld, ColorHeld, NirHeld, WaveformHeld, Held}
 use Rattle.point_write.specs.Theorems.{read-then-written, read-is-held, written-then-read, extra-written-then-read}
 use Rattle.strict.specs.declared.Fit.the-variants.{Fits}
 use Rattle.strict.specs.Fit.{flagsFitOf, fitOf}
 use Rattle.strict.specs.Upgrade.{upgradedFlags, upgradedOld, upgradedOf}
 use Rattle.pairs.specs.Paired.{Paired}
+use Rattle.pairs.specs.Sound.{not-up}
 use Rattle.strict.specs.Shown.{Same, downImage, upImage}
 use Rattle.strict.specs.Made.{old-first, old-second}
 use Rattle.strict.specs.Laws.{fitting, bytes-of-fitting, fits-down}
@@ -68,32 +69,27 @@ downOf p =
 
 -- an old format's record is that point's
 module _ (old : Format) (p : Point) (e : List ℕ) (is-old : old .«is_extended» ≡ false) (no-nir : old .«has_nir» ≡ false) where
-  rest-same : joined old p e (restOf old) ≡ joined old (downOf p) e (restOf old)
-  unfolding downOf
-  rest-same =
-      let nir : fromNir old p e ≡ fromNir old (downOf p) e = rw no-nir in
-      rest-is old p e
-      ∙ ap (λ (l : List ℕ). onlyBytes (old .«has_gps_time») (timeBytes (p .«gps_time»)) ++ (onlyBytes (old .«has_color») (colorBytes (p .color)) ++ l)) nir
-      ∙ sym (rest-is old (downOf p) e)
-
   pub down-record : (a b : ℕ) → twoBytesOf (p .flags) ≡ two.Bytes a b → recordOf old p e ≡ recordOf old (downOf p) e
-  unfolding downOf legacyCoreOf twoBytesOf
-  down-record a b t =
-      let same : twoBytesOf (downOf p .flags) ≡ two.Bytes a b = ap (λ (x : TwoBytes). twoBytesOf (downFlags x)) t in
-      legacy-is old p e a b is-old t
-      ∙ ap (λ (l : List ℕ). legacyCoreOf p a b ++ l) rest-same
-      ∙ sym (legacy-is old (downOf p) e a b is-old same)
+  unfolding downOf
+  down-record a b t = record-same old p (downOf p) e same
+    where
+      flags-same : twoBytesOf (p .flags) ≡ twoBytesOf (downFlags (twoBytesOf (p .flags)))
+      flags-same = rw t (sym (two-kept a b))
 
--- a held number is a rank
-pub held-fits : (z : ℤ) → SFits w8 (held z)
-unfolding held
-held-fits z = go z (ltZ z (negsuc 127)) (ltZ (pos 127) z) refl refl
-  where
-    go : (z : ℤ) (s t : Bool) → ltZ z (negsuc 127) ≡ s → ltZ (pos 127) z ≡ t → SFits w8 (cond s (negsuc 127) (cond t (pos 127) z))
-    go z true t e f = record { sfits = omega arith }
-    go z false true e f = record { sfits = omega arith }
-    go (pos n) false false e f = record { sfits = omega (arith, ltb-false 127 n f) }
-    go (negsuc n) false false e f = record { sfits = omega (arith, ltb-false 127 n e) }
+      same : (x : Field) → hasOf old x ≡ true → fieldBytes old p e x ≡ fieldBytes old (downOf p) e x
+      same X has = refl
+      same Y has = refl
+      same Z has = refl
+      same Intensity has = refl
+      same Flags has = rw is-old (ap twoList flags-same)
+      same UserData has = refl
+      same ScanAngle has = rw is-old
+      same PointSourceId has = refl
+      same GpsTime has = refl
+      same Color has = refl
+      same Nir has = not-up (sym no-nir ∙ has)
+      same Waveform has = refl
+      same ExtraBytes has = refl
 
 -- what the new format holds of flags and angle the old one holds of theirs
 flags-down : (f : flags.Flags) → FlagsHeld true f → flagsFitOf f ≡ Fits → FlagsHeld false (downFlags (twoBytesOf f))
@@ -106,9 +102,8 @@ flags-down (ThreeByte a b c) h fits =
     rw (bytes-of-fitting a b c fits) (x .small, y .small)
 
 angle-down : (a : angle.ScanAngle) → AngleHeld true a → AngleHeld false (Rank (toRank a))
-unfolding rankOf
 angle-down (Rank r) h = absurd h
-angle-down (Scaled n) h = held-fits _
+angle-down (Scaled n) h = rank-fits n
 
 module _ (new old : Format) (pair : Paired new old) (p : Point) (e : List ℕ) where
   module _ (has : Held new p e) (fits : fitOf p ≡ Fits) where

@@ -1,25 +1,15 @@
 -- Document 01, "Strict conversion": "Upgrade has none of these record checks: class kept, overlap set exactly for class 12,
 -- channel and NIR 0, the other flags moved."
-use Prim.Native.Nat.{ℕ, _+_, _*_}
-use mathlib.Core.Bool.{Bool}
+use Prim.Native.Nat.{ℕ}
 use lib.Dec.{eqb}
 use Rattle.flags.specs.declared.Flags.{Flags}
 use Rattle.flags.specs.declared.Flags.the-variants.{TwoByte, ThreeByte}
 use Rattle.flags.specs.Readings.{returnNumberOf, numberOfReturnsOf, directionBit, edgeOf, classOf, syntheticOf, keyPointOf, withheldOf}
-use Rattle.flags.specs.Bytes.{flag}
+pub use Rattle.flags.specs.Bytes.{newFirst, newSecond}
 use Rattle.angle.specs.declared.ScanAngle.the-variants.{Scaled}
 use Rattle.angle.specs.Angle.{toScaled}
 use Rattle.point.specs.declared.MaybeNir.the-variants.{None}
 use Rattle.point.specs.declared.Point.{Point}
-
--- byte one of extended flags, from what it says
-abbrev pub newFirst : ℕ → ℕ → ℕ
-newFirst returnNumber returns = returnNumber + 16 * returns
-
--- byte two of extended flags, from what it says
-abbrev pub newSecond : Bool → Bool → Bool → Bool → ℕ → Bool → Bool → ℕ
-newSecond synthetic key withheld overlap channel direction edge =
-    flag synthetic + 2 * flag key + 4 * flag withheld + 8 * flag overlap + 16 * channel + 64 * flag direction + 128 * flag edge
 
 -- "class kept, overlap set exactly for class 12, channel .. 0, the other flags moved"; extended flags as they are
 unfoldable pub upgradedFlags : Flags → Flags

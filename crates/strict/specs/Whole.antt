@@ -1,37 +1,42 @@
 -- When a point goes into an old record whole, field by field, and the point that it is brought up from.
 use Prim.Native.Nat.{ℕ}
 use mathlib.Core.Path.{_≡_, refl}
-use mathlib.Core.Bool.{Bool, true, false, not, cond, _&&_}
+use mathlib.Core.Bool.{Bool, true, false, not, _&&_}
 use native.Mathlib.Omega.{arith}
-use borrow.Author.Tests.{le-ltb, eqb-true}
-use lib.Dec.{eqb}
+use borrow.Author.Tests.{ltb-false, le-ltb, eqb-true}
+use lib.Dec.{eqb, ltb}
 use lib.IntN.{ℤ, pos, negsuc}
-use lib.Signed.{ltZ}
 use mir.Syntax.{w8}
 use mir.Val.{SFits}
 use Rattle.flags.specs.declared.TwoBytes.the-variants.{Bytes}
 use Rattle.flags.specs.Bytes.{twoBytesOf}
 use Rattle.angle.specs.declared.ScanAngle.{ScanAngle}
 use Rattle.angle.specs.declared.ScanAngle.the-variants.{Rank, Scaled}
-use Rattle.angle.specs.Angle.{nearestRank, held, rankOf, toRank}
+use Rattle.angle.specs.Angle.{nearestRank, toRank}
+use Rattle.angle.specs.Ranks.{rank-exact}
 use Rattle.point.specs.declared.MaybeNir.{MaybeNir}
 use Rattle.point.specs.declared.MaybeNir.the-variants.{Some, None}
 use Rattle.point.specs.declared.Point.{Point}
+use Rattle.pairs.specs.Sound.{not-up}
 use Rattle.strict.specs.declared.Fit.{Fit}
 use Rattle.strict.specs.declared.Fit.the-variants.{Fits, Refused}
 use Rattle.strict.specs.Fit.{firstOf, flagsFitOf, nirFitOf, rankFits, scaledFitOf, angleFitOf, fitOf}
 use Rattle.strict.specs.Laws.{not-refused, only-fits, fits-down}
 use Rattle.strict.specs.Shown.{exactRank, nirNumber}
 
--- ranks that need not be held
-fits-held : (z : ℤ) → rankFits z ≡ true → held z ≡ z
-unfolding rankFits held
-fits-held z e = go (ltZ z (negsuc 127)) (ltZ (pos 127) z) e
+-- ranks that fit are those of eight bits
+fits-rank : (z : ℤ) → rankFits z ≡ true → SFits w8 z
+unfolding rankFits
+fits-rank (pos n) e = go (ltb 127 n) refl e
   where
-    go : (s t : Bool) → (not s && not t) ≡ true → cond s (negsuc 127) (cond t (pos 127) z) ≡ z
-    go true t e = let q : _≡_ {A = ℕ} 0 1 = cc in absurd (omega arith)
-    go false true e = let q : _≡_ {A = ℕ} 0 1 = cc in absurd (omega arith)
-    go false false e = refl
+    go : (t : Bool) → ltb 127 n ≡ t → not t ≡ true → SFits w8 (pos n)
+    go true f e = not-up e
+    go false f e = record { sfits = omega (arith, ltb-false 127 n f) }
+fits-rank (negsuc n) e = go (ltb 127 n) refl e
+  where
+    go : (t : Bool) → ltb 127 n ≡ t → (not t && true) ≡ true → SFits w8 (negsuc n)
+    go true f e = not-up e
+    go false f e = record { sfits = omega (arith, ltb-false 127 n f) }
 
 pub rank-fits : (z : ℤ) → SFits w8 z → rankFits z ≡ true
 unfolding rankFits
@@ -40,9 +45,9 @@ rank-fits (negsuc n) h = rw (le-ltb 127 n (omega (arith, h .sfits)))
 
 -- the rank of an angle that fits is the nearest whole degree
 pub angle-exact : (a : ScanAngle) → angleFitOf a ≡ Fits → toRank a ≡ exactRank a
-unfolding scaledFitOf rankOf
+unfolding scaledFitOf
 angle-exact (Rank r) e = refl
-angle-exact (Scaled n) e = fits-held (nearestRank n) (only-fits (rankFits (nearestRank n)) _ e)
+angle-exact (Scaled n) e = rank-exact n (fits-rank (nearestRank n) (only-fits (rankFits (nearestRank n)) _ e))
 
 -- and an angle whose nearest whole degree is a rank fits
 pub exact-fits : (a : ScanAngle) (r : ℤ) → SFits w8 r → r ≡ exactRank a → angleFitOf a ≡ Fits

@@ -6,10 +6,11 @@ use borrow.Author.Needs.{needs}
 use lib.ListN.{length, drop, length-take, length-drop}
 use lib.Seq.{sets}
 use Rattle.lent.specs.Laws.{whole, less-one}
+use Rattle.lent.specs.Records.{record-length}
 use Rattle.convert.specs.Run.{imagesOf}
 use Rattle.convert.specs.Asked.{TakesRun}
 use Rattle.convert.specs.Laws.{images-length}
-use Rattle.convert.proofs.Turn.{record-length, takes-step, write-turn}
+use Rattle.convert.proofs.Turn.{takes-step, write-turn}
 use Rattle.convert.proofs.write.Statement.{statement}
 use Rattle.convert.proofs.write.Tie as tie
 

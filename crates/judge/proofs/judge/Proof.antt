@@ -1,15 +1,9 @@
 -- The tests are by division, which cannot wrap, and say what the exact products would.
-use Prim.Native.Nat.{ℕ, _*_, _≤_, _<_}
-use mathlib.Core.Path.{_≡_, ap, sym}
-use mathlib.Core.Bool.{Bool, true, false, cond}
-use native.Mathlib.Omega.{arith}
+use Prim.Native.Nat.{_*_, _≤_, _<_}
 use borrow.Author.Tests.{le-ltb, lt-ltb}
 use lib.ListN.{length}
 use Rattle.judge.specs.Judge.{judgedOf}
-use Rattle.format.specs.declared.Format.{Format}
-use Rattle.format.specs.Laws.{len-is, record-sum}
-use Rattle.pairs.specs.Paired.{Mates}
-use Rattle.pairs.specs.Sound.{not-up, some-bytes}
+use Rattle.pairs.specs.Sound.{some-bytes}
 use Rattle.judge.proofs.Turn.{div-le, div-lt}
 use Rattle.judge.proofs.judge.Statement.{statement}
 use Rattle.judge.proofs.judge.Tie as tie
@@ -28,18 +22,10 @@ there c = let s = c .before .before .before in div-le _ (s .args .count) _ (sour
 fits : (c : tie.Else2) → c .before .before .before .before .before .args .count * c .before .before .before .before .before .args .plan .«target_length» ≤ c .before .before .before .before .before .args .room
 fits c = let s = c .before .before .before .before .before in div-le _ (s .args .count) (s .args .room) (target-bytes s) (c .if2 .left)
 
--- what goes down is of a new format
-new-source : (up : Bool) (a b : Format) → Mates up a b → up ≡ false → a .«is_extended» ≡ true
-new-source true a b mates e = not-up (sym e)
-new-source false a b mates e = mates .is-new
-
 judge-records-requires : tie.Need-judge-records-requires
 judge-records-requires c κs =
     let e = c .before in
-    let s = e .before .before .before .before .before in
-    let source = s .args .plan .source in
-    let new = new-source (s .args .up) source (s .args .plan .target) (s .pre .mates) (c .if3 .left) in
-    (there (e .before .before), omega (arith, len-is source (s .args .plan .«source_length») (s .pre .from), record-sum source, ap {B = ℕ} (λ (c : Bool). cond c 2 0) new), new)
+    (e .before .before .before .before .before .pre .from, there (e .before .before))
 
 returns : tie.Need-returns
 unfolding judgedOf

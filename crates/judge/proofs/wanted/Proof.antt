@@ -11,12 +11,12 @@ returns : tie.Need-returns
 unfolding wantedOf
 returns c =
     let a = c .before .args in
-    let above = div-lt (a .length) (a .count) 18446744073709551615 (c .before .pre) (c .if1 .taken) in
-    rw (le-ltb (a .count * a .length) (2 ^ 64) (omega arith))
+    let above = div-lt (a .m) (a .count) 18446744073709551615 (c .before .pre) (c .if1 .taken) in
+    rw (le-ltb (a .count * a .m) (2 ^ 64) (omega arith))
 
 -- the test by division says that the product fits
-below : (c : tie.Else1) → c .before .args .count * c .before .args .length ≤ 18446744073709551615
-below c = div-le (c .before .args .length) (c .before .args .count) 18446744073709551615 (c .before .pre) (c .if1 .left)
+below : (c : tie.Else1) → c .before .args .count * c .before .args .m ≤ 18446744073709551615
+below c = div-le (c .before .args .m) (c .before .args .count) 18446744073709551615 (c .before .pre) (c .if1 .left)
 
 mul-result : tie.Need-mul-result
 mul-result c = omega (arith, below c)
@@ -25,7 +25,7 @@ returns-2 : tie.Need-returns-2
 unfolding wantedOf
 returns-2 c =
     let a = c .before .args in
-    rw (lt-ltb (a .count * a .length) (2 ^ 64) (omega (arith, below c)))
+    rw (lt-ltb (a .count * a .m) (2 ^ 64) (omega (arith, below c)))
 
 pub wanted-spec : {M : Type 1} → statement M
 wanted-spec = tie.close (tie.spec (λ c. search needs) returns mul-result returns-2)

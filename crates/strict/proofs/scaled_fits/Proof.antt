@@ -11,6 +11,7 @@ use mir.Syntax.{w16}
 use mir.Val.{toZ, ofZ}
 use mir.ValLaws.{toZ-ofZ}
 use Rattle.angle.specs.Angle.{nearest, nearestRank}
+use Rattle.angle.specs.Ranks.{nearest-sided}
 use Rattle.angle.specs.Theorems.{nearest-whole}
 use Rattle.strict.specs.Fit.{rankFits}
 use Rattle.strict.proofs.scaled_fits.Statement.{statement}
@@ -31,10 +32,12 @@ below zero = refl
 below (suc m) = rw (leb·suc-suc 128 m)
 
 between : (n : ℤ) → rankFits (nearestRank n) ≡ (leZ (negsuc 21415) n && leZ n (pos 21249))
-unfolding rankFits nearestRank
-between (pos n) = within 127 21249 n (omega arith) (omega arith)
+unfolding rankFits
+between (pos n) = ap rankFits (nearest-sided (pos n)) ∙ within 127 21249 n (omega arith) (omega arith)
 between (negsuc k) =
-    below (nearest (suc k)) ∙ rw (within 128 21416 (suc k) (omega arith) (omega arith), leb·suc-suc k 21415)
+    ap rankFits (nearest-sided (negsuc k))
+    ∙ below (nearest (suc k))
+    ∙ rw (within 128 21416 (suc k) (omega arith) (omega arith), leb·suc-suc k 21415)
 
 seen : (c : tie.Start) → toZ w16 (ofZ w16 (c .args .n)) ≡ c .args .n
 seen c = toZ-ofZ w16 (c .args .n) (c .fits .n)
