@@ -285,15 +285,15 @@ fn distance(from: u64, to: u64) -> u64
 }
 
 // A part and where to go on.
-fn told(kind: Kind, start: u64, length: u64, next: Cursor) -> Step
-    ensures { λ r. ⌜ r ≡ told kind start length next ⌝ }
+fn told(kind: Kind, start: u64, n: u64, next: Cursor) -> Step
+    ensures { λ r. ⌜ r ≡ told kind start n next ⌝ }
 {
     Step {
         has: true,
         part: Part {
             kind,
             start,
-            length,
+            length: n,
         },
         next,
     }

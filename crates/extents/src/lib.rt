@@ -46,15 +46,15 @@ fn check_points(file: &[u8], allowance: u64, o: Outline) -> Checked
     ensures { λ r. ⌜ r ≡ first (pointRule o (now (file .entry)) ∷ evlrRules allowance o (now (file .entry))) (checked.Accepted (recordsOf o)) ⌝ }
 {
     let offset = o.offset_to_point_data as usize;
-    let length = o.point_data_record_length as usize;
+    let record_length = o.point_data_record_length as usize;
     let count = o.number_of_point_records as usize;
-    if (file.len() - offset) / length < count {
+    if (file.len() - offset) / record_length < count {
         return rules::refused(
             Refusal::PointExtent(o.number_of_point_records),
             o.number_of_variable_length_records as u64,
         );
     }
-    check_evlrs(file, allowance, o, offset + count * length)
+    check_evlrs(file, allowance, o, offset + count * record_length)
 }
 
 // Rule 8, for points that end at `end`.

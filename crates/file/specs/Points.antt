@@ -28,8 +28,8 @@ use Rattle.file.specs.Holds.{Holds}
 
 -- "Record length below the format's: 8. The rest is extra bytes." Where the code is refused, the format with no attribute.
 abbrev pub filled : ℕ → NewFormat → Format
-filled length (new.Is f) = withExtra (length - recordBytes f) f
-filled length (new.Refused r) = plain
+filled recordLength (new.Is f) = withExtra (recordLength - recordBytes f) f
+filled recordLength (new.Refused r) = plain
 
 -- the format of the header's code, in records of the header's record length
 unfoldable pub pointFormat : Outline → Format

@@ -43,14 +43,14 @@ pub fn point_format(o: Outline) -> Format
 
 // The bytes that a record of this length has beyond this format's, 0 where it is shorter. No u16 is longer than an
 // overlong format.
-fn beyond(format: Format, length: u16) -> u16
-    ensures { λ r. ⌜ r ≡ «length» - recordBytes format ⌝ }
+fn beyond(format: Format, record_length: u16) -> u16
+    ensures { λ r. ⌜ r ≡ «record_length» - recordBytes format ⌝ }
 {
     let FormatLen::Is(n) = format.len() else {
         return 0;
     };
-    if length < n {
+    if record_length < n {
         return 0;
     }
-    length - n
+    record_length - n
 }

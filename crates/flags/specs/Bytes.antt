@@ -7,9 +7,8 @@ use Rattle.flags.specs.declared.Flags.{Flags}
 use Rattle.flags.specs.declared.Flags.the-variants.{TwoByte, ThreeByte}
 use Rattle.flags.specs.declared.TwoBytes.{TwoBytes}
 use Rattle.flags.specs.declared.TwoBytes.the-variants.{Bytes, Refused}
-use Rattle.flags.specs.declared.FittedBytes.{FittedBytes}
 use Rattle.flags.specs.declared.ThreeBytes.{ThreeBytes}
-use Rattle.flags.specs.Readings.{low, field, returnNumberOf, numberOfReturnsOf, directionBit, edgeOf, classOf, syntheticOf, keyPointOf, withheldOf, overlapOf, channelOf}
+use Rattle.flags.specs.Readings.{returnNumberOf, numberOfReturnsOf, directionBit, edgeOf, classOf, syntheticOf, keyPointOf, withheldOf, overlapOf, channelOf}
 
 -- a flag as the number of its bit
 abbrev pub flag : Bool → ℕ
@@ -48,15 +47,6 @@ twoBytesOf (ThreeByte a b c) =
     (cond (ltb 7 (numberOfReturnsOf f)) (Refused (NumberOfReturns (numberOfReturnsOf f)))
     (cond (ltb 31 (classOf f)) (Refused (Class (classOf f)))
     (cond (ltb 0 (channelOf f)) (Refused (Channel (channelOf f))) (oldBytesOf f))))
-
--- the old bytes of extended flags that fit, from the low bits of what they say
-unfoldable pub fittedOf : ℕ → ℕ → ℕ → FittedBytes
-fittedOf a b c =
-    let f = ThreeByte a b c in
-    record {
-      a = oldFirst (low 3 a) (field 4 3 a) (directionBit f) (edgeOf f);
-      b = oldSecond (cond (overlapOf f) 12 (low 5 c)) (syntheticOf f) (keyPointOf f) (withheldOf f);
-    }
 
 -- extended flags as they are; old ones lose direction and edge, and their byte two becomes the class whole
 unfoldable pub threeBytesOf : Flags → ThreeBytes

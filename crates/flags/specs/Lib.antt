@@ -2,5 +2,4 @@ pub mod Readings
 pub mod Bytes
 pub mod Bits
 pub mod Laws
-pub mod Fitted
 pub mod Theorems

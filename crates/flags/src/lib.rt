@@ -3,7 +3,7 @@
 ghost use mathlib.Core.Path.{_≡_};
 ghost use mathlib.Core.Bool.{cond};
 ghost use Rattle.flags.specs.Readings.{bit, returnNumberOf, numberOfReturnsOf, directionOf, syntheticOf, keyPointOf, withheldOf, overlapOf, channelOf, edgeOf, classOf};
-ghost use Rattle.flags.specs.Bytes.{twoBytesOf, fittedOf, threeBytesOf, clearedOf, sameOf};
+ghost use Rattle.flags.specs.Bytes.{twoBytesOf, threeBytesOf, clearedOf, sameOf};
 use refusal::Refusal;
 
 // The class that stands for overlap in two-byte flags, and the one that takes its place where it is cleared.
@@ -33,12 +33,6 @@ pub struct ThreeBytes {
 pub enum TwoBytes {
     Bytes(u8, u8),
     Refused(Refusal),
-}
-
-// The bytes of two-byte flags, where it is known that there are some.
-pub struct FittedBytes {
-    pub a: u8,
-    pub b: u8,
 }
 
 impl Flags {
@@ -232,27 +226,12 @@ fn two_bytes(a: u8, b: u8, c: u8) -> TwoBytes
     if scanner_channel > 0 {
         return TwoBytes::Refused(Refusal::Channel(scanner_channel));
     }
-    let fitted = fitted_bytes(a, b, c);
-    TwoBytes::Bytes(fitted.a, fitted.b)
-}
-
-// The two bytes of three-byte flags that are known to fit, with no test: of return number, number of returns and class the low bits
-// are taken, and the channel is left out. Direction and edge keep their places, bits 6 and 7; synthetic, key point and withheld
-// move from bits 0 to 2 up to bits 5 to 7.
-pub fn fitted_bytes(a: u8, b: u8, c: u8) -> FittedBytes
-    ensures { λ r. ⌜ r ≡ fittedOf a b c ⌝ }
-{
-    let first = b / 64 * 64 + a / 16 % 8 * 8 + a % 8;
+    // Direction and edge keep their places, bits 6 and 7; synthetic, key point and withheld move from bits 0 to 2 up to bits 5 to 7.
+    let first = b / 64 * 64 + number_of_returns * 8 + return_number;
     if b / 8 % 2 == 1 {
-        return FittedBytes {
-            a: first,
-            b: b % 8 * 32 + OVERLAP_CLASSIFICATION_CODE,
-        };
+        return TwoBytes::Bytes(first, b % 8 * 32 + OVERLAP_CLASSIFICATION_CODE);
     }
-    FittedBytes {
-        a: first,
-        b: b % 8 * 32 + c % 32,
-    }
+    TwoBytes::Bytes(first, b % 8 * 32 + c)
 }
 
 // Class 12 becomes 1, and the three flags above it stay.

@@ -1,10 +1,10 @@
 -- The fields of a point record in their order, and their sizes: LAS 1.4 R15, point data record formats 0 to 10; document 01, "Order".
 use Prim.Native.Nat.{ℕ, _+_}
-use mathlib.Core.Path.{_≡_}
 use mathlib.Core.Bool.{Bool, true, false, cond}
 use mathlib.Core.List.{List, [], _∷_, _++_}
 use lib.Dec.{ltb}
 use Rattle.refusal.specs.declared.Refusal.the-variants.{RecordLength}
+use Rattle.fields.specs.Table.{total}
 use Rattle.format.specs.declared.Format.{Format}
 use Rattle.format.specs.declared.Field.{Field}
 use Rattle.format.specs.declared.Field.the-variants.{X, Y, Z, Intensity, Flags, UserData, ScanAngle, PointSourceId, GpsTime, Color, Nir, Waveform, ExtraBytes}
@@ -63,19 +63,25 @@ placeOf f ExtraBytes =
     cond (f .«is_extended») 22 20 + cond (f .«has_gps_time») 8 0 + cond (f .«has_color») 6 0 + cond (f .«has_nir») 2 0
     + cond (f .«has_waveform») 29 0
 
--- some fields stand one after another from a place on, with no gap and no overlap
-abbrev pub Follow : Format → ℕ → List Field → Type 0
-Follow f at [] = Unit
-Follow f at (x ∷ xs) = (placeOf f x ≡ at) × Follow f (at + sizeOf f x) xs
-
--- the bytes of some fields together
-unfoldable pub sizes : Format → List Field → ℕ
-sizes f [] = 0
-sizes f (x ∷ xs) = sizeOf f x + sizes f xs
+-- whether a format has a field
+abbrev pub hasOf : Format → Field → Bool
+hasOf f X = true
+hasOf f Y = true
+hasOf f Z = true
+hasOf f Intensity = true
+hasOf f Flags = true
+hasOf f UserData = true
+hasOf f ScanAngle = true
+hasOf f PointSourceId = true
+hasOf f GpsTime = f .«has_gps_time»
+hasOf f Color = f .«has_color»
+hasOf f Nir = f .«has_nir»
+hasOf f Waveform = f .«has_waveform»
+hasOf f ExtraBytes = true
 
 -- the bytes of a whole record
 unfoldable pub recordBytes : Format → ℕ
-recordBytes f = sizes f (fieldsOf f)
+recordBytes f = total (sizeOf f) (fieldsOf f)
 
 -- the length as a u16, or refusal 8 with the true length
 unfoldable pub lenOf : Format → FormatLen

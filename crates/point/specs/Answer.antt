@@ -72,5 +72,8 @@ module _ (f : Format) (s : List ℕ) where
   pub read-told : (n : ℕ) → lenOf f ≡ len.Is n → n ≤ length s → readOf f s ≡ Is (pointOf f s)
   read-told n e room = read-whole (len-le f n e) (omega (arith, len-is f n e))
 
+  pub whole-read : lenOf f ≡ len.Is (length s) → readOf f s ≡ Is (pointOf f s)
+  whole-read e = read-told (length s) e (omega arith)
+
   pub extra-length : recordBytes f ≤ length s → length (fieldOf f ExtraBytes s) ≡ f .«extra_bytes»
   extra-length h = length-take-le (f .«extra_bytes») (drop (placeOf f ExtraBytes) s) (rw length-drop (omega (arith, record-end f)))

@@ -118,14 +118,6 @@ impl Point {
     }
 }
 
-// The near infrared alone, in the first bytes of s; a byte past the end counts as 0.
-pub fn nir_in(s: &[u8], format: Format) -> MaybeNir
-    ensures { λ r. ⌜ r ≡ pointOf format (now (s .entry)) .nir ⌝ }
-{
-    let places = layout::places_for(format);
-    nir_at(s, format.has_nir, places.nir)
-}
-
 // The point's extra bytes, as a part of s; none where the read is refused.
 pub fn extra_bytes(s: &[u8], format: Format) -> &[u8]
     ensures { λ r. ⌜ now r ≡ extraOf format (now (s .entry)) ⌝ }
@@ -273,7 +265,7 @@ fn waveform_at(s: &[u8], has: bool, at: usize) -> MaybeWaveform
 
 impl Waveform {
     // The waveform in the first bytes of s; a byte past the end counts as 0.
-    pub fn read_from(s: &[u8]) -> Waveform
+    fn read_from(s: &[u8]) -> Waveform
         ensures { λ r. ⌜ r ≡ waveformAt 0 (now (s .entry)) ⌝ }
     {
         let location = le::f32_at(s, 13);

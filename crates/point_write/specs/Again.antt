@@ -15,13 +15,18 @@ use mir.ValLaws.{ofZ-fits, toZ-ofZ}
 use Rattle.le.specs.Le.{num, bytes}
 use Rattle.le.specs.Laws.{Fit, num-bytes, nums-bytes}
 use Rattle.le.specs.Real.{patternOf, f32Of, f64Of, f64BitsOf}
+use Rattle.fields.specs.Laws.{every, parts-joined}
 use Rattle.format.specs.declared.Format.{Format}
 use Rattle.format.specs.declared.Field.{Field}
 use Rattle.format.specs.declared.Field.the-variants.{X, Y, Z, Intensity, Flags, UserData, ScanAngle, PointSourceId, GpsTime, Color, Nir, Waveform, ExtraBytes}
-use Rattle.format.specs.Fields.{placeOf}
+use Rattle.format.specs.Fields.{fieldsOf, sizeOf, placeOf, hasOf}
+use Rattle.format.specs.Laws.{fields-follow}
+use Rattle.format.specs.Each.{field-of}
 use Rattle.flags.specs.declared.Flags as flags
 use Rattle.flags.specs.declared.Flags.the-variants.{TwoByte, ThreeByte}
+use Rattle.flags.specs.declared.TwoBytes.the-variants as two
 use Rattle.flags.specs.Bytes.{twoBytesOf, threeBytesOf}
+use Rattle.flags.specs.Laws.{two-kept}
 use Rattle.angle.specs.declared.ScanAngle as angle
 use Rattle.angle.specs.declared.ScanAngle.the-variants.{Rank, Scaled}
 use Rattle.angle.specs.Angle.{toRank, toScaled}
@@ -38,7 +43,7 @@ use Rattle.point.specs.Read.{fieldOf, flagsAt, angleAt, timeAt, colorAt, nirOf,
 use Rattle.point_bytes.specs.Bytes.{timeBytes, colorBytes, nirBytes, waveformBytes, threeList}
 use Rattle.point_write.specs.Write.{fieldBytes, recordOf, twoList}
 use Rattle.point_write.specs.Held.{FlagsHeld, AngleHeld, TimeHeld, ColorHeld, NirHeld, WaveformHeld, F32Held, Held}
-use Rattle.point_write.specs.Places.{hasOf, written-at}
+use Rattle.point_write.specs.Taken.{Taken, field-length}
 
 module _ (s : List ℕ) where
   signed-again : (w : Width) (n at : ℕ) (z : ℤ) → 2 ^ bits w ≡ 256 ^ n → SFits w z → take n (drop at s) ≡ bytes n (ofZ w z) → toZ w (num n at s) ≡ z
@@ -112,12 +117,28 @@ module _ (s : List ℕ) where
   waveform-again true at some-waveform.None h e = absurd h
   waveform-again false at (some-waveform.Some w) h e = absurd h
 
+-- flags of the format's kind fit
+flags-taken : (c : Bool) (fl : flags.Flags) → FlagsHeld c fl → c ≡ false → (a : ℕ) × (b : ℕ) × (twoBytesOf fl ≡ two.Bytes a b)
+flags-taken c (TwoByte a b) h old = (a, b, two-kept a b)
+flags-taken true (ThreeByte a b c) h old = let z : _≡_ {A = ℕ} 0 1 = cc in absurd (omega arith)
+flags-taken false (ThreeByte a b c) h old = absurd h
+
 module _ (f : Format) (p : Point) (e : List ℕ) (held : Held f p e) where
+  pub held-taken : Taken f p e
+  held-taken = record { flags = flags-taken (f .«is_extended») (p .flags) (held .flags); extra = held .extra }
+
+  -- each field that the format has stands at its place in the record
+  written-at : (rest : List ℕ) (x : Field) → hasOf f x ≡ true → fieldOf f x (recordOf f p e ++ rest) ≡ fieldBytes f p e x
+  unfolding recordOf
+  written-at rest =
+      field-of f (λ x. fieldOf f x (recordOf f p e ++ rest) ≡ fieldBytes f p e x)
+      (parts-joined (sizeOf f) (fieldBytes f p e) (placeOf f) (recordOf f p e ++ rest) (fieldsOf f) 0 rest (fields-follow f) (every (field-length f p e held-taken) (fieldsOf f)) refl)
+
   pub point-again : (rest : List ℕ) → pointOf f (recordOf f p e ++ rest) ≡ p
   unfolding pointOf
   point-again rest =
       let s : List ℕ = recordOf f p e ++ rest in
-      let at : (x : Field) → hasOf f x ≡ true → fieldOf f x s ≡ fieldBytes f p e x = written-at f p e held rest in
+      let at : (x : Field) → hasOf f x ≡ true → fieldOf f x s ≡ fieldBytes f p e x = written-at rest in
       λ i.
       record {
         x = signed-again s w32 4 0 (p .x) refl (held .x) (at X refl) i;
@@ -135,4 +156,4 @@ module _ (f : Format) (p : Point) (e : List ℕ) (held : Held f p e) where
       }
 
   pub extra-again : (rest : List ℕ) → fieldOf f ExtraBytes (recordOf f p e ++ rest) ≡ e
-  extra-again rest = written-at f p e held rest ExtraBytes refl
+  extra-again rest = written-at rest ExtraBytes refl

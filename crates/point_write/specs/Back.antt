@@ -8,23 +8,24 @@ use borrow.Author.Tests.{eqb-true}
 use lib.Dec.{eqb}
 use lib.Ieee.{binary32}
 use lib.ListN.{length, take, drop}
-use lib.Seq.{take-add, drop-drop}
 use mir.Syntax.{Width, w8, w16, w32}
 use mir.Val.{Fits, bits, ofZ, toZ}
 use mir.ValLaws.{ofZ-toZ}
 use Rattle.le.specs.Le.{num, bytes, Bytes}
 use Rattle.le.specs.Laws.{num-lt, bytes-num, span-num}
 use Rattle.le.specs.Real.{patternOf, f32Of, pattern-kept, f64-kept}
+use Rattle.fields.specs.Laws.{joined-parts}
 use Rattle.format.specs.declared.Format.{Format}
 use Rattle.format.specs.declared.Field.{Field}
-use Rattle.format.specs.declared.Field.the-variants.{UserData, ScanAngle, PointSourceId, GpsTime, Color, Nir, Waveform, ExtraBytes}
-use Rattle.format.specs.Fields.{only, restOf, fieldsOf, sizeOf, placeOf, Follow, sizes, recordBytes}
+use Rattle.format.specs.declared.Field.the-variants.{X, Y, Z, Intensity, Flags, UserData, ScanAngle, PointSourceId, GpsTime, Color, Nir, Waveform, ExtraBytes}
+use Rattle.format.specs.Fields.{fieldsOf, sizeOf, placeOf, hasOf, recordBytes}
 use Rattle.format.specs.Laws.{fields-follow}
+use Rattle.format.specs.Each.{each-field}
 use Rattle.flags.specs.Bytes.{twoBytesOf, threeBytesOf}
 use Rattle.angle.specs.Angle.{toRank, toScaled}
 use Rattle.point.specs.Read.{fieldOf, flagsAt, angleAt, timeAt, colorAt, nirOf, nirAt, waveformAt, maybeWaveformAt, pointOf}
 use Rattle.point_bytes.specs.Bytes.{timeBytes, colorBytes, nirBytes, waveformBytes, threeList}
-use Rattle.point_write.specs.Write.{twoList, fieldBytes, joined, recordOf}
+use Rattle.point_write.specs.Write.{twoList, fieldBytes, recordOf}
 
 -- NIR 0 reads as missing, and missing is written as 0
 nir-back : (n : ℕ) → nirBytes (nirOf n) ≡ bytes 2 n
@@ -86,43 +87,24 @@ module _ (s : List ℕ) (all : Bytes s) (f : Format) where
   abbrev putBack : Field → List ℕ
   putBack x = fieldBytes f (pointOf f s) (fieldOf f ExtraBytes s) x
 
-  -- each of some fields is put back, where its bytes are there
-  abbrev Back : List Field → Type 0
-  Back [] = Unit
-  Back (x ∷ xs) = (placeOf f x + sizeOf f x ≤ length s → putBack x ≡ fieldOf f x s) × Back xs
-
-  -- fields that stand one after the other, each put back, are the bytes from the first on
-  joined-back : (xs : List Field) (at : ℕ) → Follow f at xs → Back xs → at + sizes f xs ≤ length s → joined f (pointOf f s) (fieldOf f ExtraBytes s) xs ≡ take (sizes f xs) (drop at s)
-  unfolding joined sizes
-  joined-back [] at follow back h = refl
-  joined-back (x ∷ xs) at (here, follow) (back, backs) h =
-      let first : putBack x ≡ take (sizeOf f x) (drop at s) = back (omega arith) ∙ ap (λ (n : ℕ). take (sizeOf f x) (drop n s)) here in
-      rw (take-add, drop-drop, first, joined-back xs (at + sizeOf f x) follow backs (omega arith))
-
-  -- a field that may be missing
-  back-only : (b : Bool) (x : Field) (xs : List Field) → (b ≡ true → placeOf f x + sizeOf f x ≤ length s → putBack x ≡ fieldOf f x s) → Back xs → Back (only b x ++ xs)
-  back-only true x xs back backs = (back refl, backs)
-  back-only false x xs back backs = backs
-
-  rest-back : Back (restOf f)
+  field-back : (x : Field) → hasOf f x ≡ true → placeOf f x + sizeOf f x ≤ length s → putBack x ≡ fieldOf f x s
   unfolding pointOf
-  rest-back =
-      back-only (f .«has_gps_time») GpsTime _ (time-back s all (f .«has_gps_time») (placeOf f GpsTime))
-      (back-only (f .«has_color») Color _ (color-back s all (f .«has_color») (placeOf f Color))
-      (back-only (f .«has_nir») Nir _ (some-nir-back s all (f .«has_nir») (placeOf f Nir))
-      (back-only (f .«has_waveform») Waveform _ (waveform-back s all (f .«has_waveform») (placeOf f Waveform)) ((λ h. refl), tt))))
-
-  -- angle and user data in either order
-  middle-back : (c : Bool) → Back (cond c (UserData ∷ ScanAngle ∷ []) (ScanAngle ∷ UserData ∷ []) ++ (PointSourceId ∷ restOf f))
-  unfolding pointOf
-  middle-back true = (byte-back s all 17, (angle-back s all (f .«is_extended») (placeOf f ScanAngle), (bytes-num 2 (placeOf f PointSourceId) s all, rest-back)))
-  middle-back false = (angle-back s all (f .«is_extended») (placeOf f ScanAngle), (byte-back s all 17, (bytes-num 2 (placeOf f PointSourceId) s all, rest-back)))
-
-  fields-back : Back (fieldsOf f)
-  unfolding pointOf fieldsOf
-  fields-back =
-      (signed-back s all w32 4 0 refl, (signed-back s all w32 4 4 refl, (signed-back s all w32 4 8 refl, (bytes-num 2 12 s all, (flags-back s all (f .«is_extended») 14, middle-back (f .«is_extended»))))))
+  field-back X has = signed-back s all w32 4 0 refl
+  field-back Y has = signed-back s all w32 4 4 refl
+  field-back Z has = signed-back s all w32 4 8 refl
+  field-back Intensity has = bytes-num 2 12 s all
+  field-back Flags has = flags-back s all (f .«is_extended») 14
+  field-back UserData has = byte-back s all 17
+  field-back ScanAngle has = angle-back s all (f .«is_extended») (placeOf f ScanAngle)
+  field-back PointSourceId has = bytes-num 2 (placeOf f PointSourceId) s all
+  field-back GpsTime has = time-back s all (f .«has_gps_time») (placeOf f GpsTime) has
+  field-back Color has = color-back s all (f .«has_color») (placeOf f Color) has
+  field-back Nir has = some-nir-back s all (f .«has_nir») (placeOf f Nir) has
+  field-back Waveform has = waveform-back s all (f .«has_waveform») (placeOf f Waveform) has
+  field-back ExtraBytes has = λ h. refl
 
   pub record-back : recordBytes f ≤ length s → recordOf f (pointOf f s) (fieldOf f ExtraBytes s) ≡ take (recordBytes f) s
   unfolding recordOf recordBytes
-  record-back h = joined-back (fieldsOf f) 0 (fields-follow f) fields-back (omega arith)
+  record-back h =
+      joined-parts (sizeOf f) putBack (placeOf f) s (fieldsOf f) 0 (fields-follow f) (omega arith)
+      (each-field f (λ x. placeOf f x + sizeOf f x ≤ length s → putBack x ≡ fieldOf f x s) field-back)

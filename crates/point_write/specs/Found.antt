@@ -17,8 +17,8 @@ use Rattle.format.specs.declared.Field.the-variants.{Flags, ScanAngle, PointSou
 use Rattle.format.specs.Fields.{placeOf, recordBytes}
 use Rattle.point.specs.declared.MaybeNir.the-variants as some-nir
 use Rattle.point.specs.Read.{fieldOf, flagsAt, angleAt, timeAt, colorAt, nirOf, nirAt, waveformAt, maybeWaveformAt, pointOf}
+use Rattle.point.specs.Answer.{extra-length}
 use Rattle.point_write.specs.Back.{num-fits, f32-back}
-use Rattle.point_write.specs.Answered.{extra-length}
 use Rattle.point_write.specs.Held.{FlagsHeld, AngleHeld, TimeHeld, ColorHeld, NirHeld, F32Held, WaveformHeld, Held}
 
 -- NIR 0 is read as missing

@@ -1,12 +1,12 @@
 pub mod Write
 pub mod Laws
-pub mod Back
+pub mod Taken
 pub mod Answered
+pub mod Back
 pub mod Past
 pub mod Held
 pub mod Found
-pub mod Places
 pub mod Again
 pub mod Accepted
 pub mod Theorems
-pub mod Taken
+pub mod Octets

@@ -1,6 +1,6 @@
 -- The bytes of a point record, its parts in the order of the table (document 01, "Record layouts"), and what writing one answers and leaves.
 use Prim.Native.Nat.{ℕ}
-use mathlib.Core.Bool.{Bool, true, false, cond}
+use mathlib.Core.Bool.{cond}
 use mathlib.Core.List.{List, [], _∷_, _++_}
 use lib.Dec.{ltb, eqb}
 use lib.ListN.{length, drop}
@@ -10,6 +10,7 @@ use Rattle.refusal.specs.declared.Refusal.the-variants as refusal
 use Rattle.le.specs.Le.{bytes}
 use Rattle.lent.specs.declared.Wrote.{Wrote}
 use Rattle.lent.specs.declared.Wrote.the-variants.{Bytes, Refused}
+use Rattle.fields.specs.Table.{joined}
 use Rattle.format.specs.declared.Format.{Format}
 use Rattle.format.specs.declared.FormatLen.{FormatLen}
 use Rattle.format.specs.declared.FormatLen.the-variants as len
@@ -45,19 +46,9 @@ fieldBytes f p e Nir = nirBytes (p .nir)
 fieldBytes f p e Waveform = waveformBytes (p .waveform)
 fieldBytes f p e ExtraBytes = e
 
--- some fields, one after the other
-unfoldable pub joined : Format → Point → List ℕ → List Field → List ℕ
-joined f p e [] = []
-joined f p e (x ∷ xs) = fieldBytes f p e x ++ joined f p e xs
-
 -- the whole record: the fields of the format in the table's order
 unfoldable pub recordOf : Format → Point → List ℕ → List ℕ
-recordOf f p e = joined f p e (fieldsOf f)
-
--- bytes that the format has or lacks
-abbrev pub onlyBytes : Bool → List ℕ → List ℕ
-onlyBytes true bs = bs
-onlyBytes false bs = []
+recordOf f p e = joined (fieldBytes f p e) (fieldsOf f)
 
 -- a record of n bytes at the front of d; in legacy formats only where the flags fit
 abbrev pub flaggedOf : Format → Point → List ℕ → ℕ → List ℕ → TwoBytes → Wrote × List ℕ

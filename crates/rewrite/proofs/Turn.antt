@@ -1,24 +1,47 @@
 -- A turn of a loop that lays one piece after the other into the rest of the destination.
-use Prim.Native.Nat.{ℕ, _+_, _-_, _≤_}
+use Prim.Native.Nat.{ℕ, suc, _+_, _-_, _*_, _≤_, _<_}
 use mathlib.Core.Path.{_≡_, refl, ap, sym, _∙_}
 use mathlib.Core.Bool.{Bool, true, false, cond, not}
 use mathlib.Core.List.{List, [], _∷_, _++_}
 use native.Mathlib.Omega.{arith}
-use lib.ListN.{length, take, drop}
-use lib.Seq.{sets}
+use lib.ListN.{length, take, drop, length-drop}
+use lib.Seq.{sets, drop-drop, length-take-le}
 use Rattle.le.specs.Le.{Bytes}
-use Rattle.lent.specs.Laws.{laid-turn}
+use Rattle.le.specs.Laws.{bytes-take, bytes-drop}
+use Rattle.lent.specs.Laws.{laid-turn, less-one}
+use Rattle.format.specs.declared.Format.{Format}
+use Rattle.format.specs.declared.FormatLen.the-variants as len
+use Rattle.format.specs.Fields.{lenOf}
 use Rattle.outline.specs.declared.Outline.{Outline}
 use Rattle.cursor.specs.declared.Part.{Part}
 use Rattle.cursor.specs.declared.Cursor.{Cursor}
 use Rattle.cursor.specs.declared.Step.{Step}
-use Rattle.cursor.specs.Parts.{bytesOf}
+use Rattle.cursor.specs.Parts.{between, bytesOf}
 use Rattle.cursor.specs.Cursor.{stepOf, leftOf, toldBy}
 use Rattle.cursor.specs.Laws.{left-step}
-use Rattle.rewrite.specs.Back.{partBack}
+use Rattle.rewrite.specs.Back.{pointBack, pointsBack, partBack}
 use Rattle.rewrite.specs.Rewritten.{backOf}
-use Rattle.rewrite.specs.Asked.{PartIs, At}
+use Rattle.rewrite.specs.Asked.{PointPart, PartIs, At}
 use Rattle.rewrite.specs.Whole.{length-part, length-back}
+use Rattle.rewrite.specs.Laws.{point-same}
+
+-- a record of the points, as it is cut and laid, and those that are left after it
+pub points-turn : (f : Format) (m : ℕ) → lenOf f ≡ len.Is m → (s : List ℕ) → Bytes s → (at left : ℕ) → 0 < left → at + left * m ≡ length s → (d ys : List ℕ) {w : List ℕ} → length s ≤ length d → ys ≡ pointBack f (between at (at + m) s) ++ drop (length (between at (at + m) s)) (between at (length d) d) → sets d at (pointsBack f m left (drop at s)) ≡ w
+    → (length (take at d ++ (ys ++ drop (length d - at) (drop at d))) ≡ length d) × (sets (take at d ++ (ys ++ drop (length d - at) (drop at d))) (at + m) (pointsBack f m (left - 1) (drop (at + m) s)) ≡ w)
+unfolding pointsBack
+points-turn f m long s bytes at left more ends d ys room laid all =
+    let fits : at + m ≤ length s = omega (arith, less-one left m more) in
+    let size : at + m - at ≡ m = omega arith in
+    let one : length (between at (at + m) s) ≡ m = rw size (length-take-le m (drop at s) (simp length-drop (omega arith))) in
+    let same = point-same f (between at (at + m) s) (rw one long) (bytes-take (at + m - at) (drop at s) (bytes-drop at s bytes)) in
+    laid-turn d (pointBack f (between at (at + m) s)) (pointsBack f m (left - 1) (drop (at + m) s)) ys at m (ap length same ∙ one) (omega arith) (rw one at laid)
+    (sym (ap (sets d at) (step (left - 1) (omega arith))) ∙ all)
+  where
+    step : (k : ℕ) → left ≡ suc k → pointsBack f m left (drop at s) ≡ pointBack f (between at (at + m) s) ++ pointsBack f m (left - 1) (drop (at + m) s)
+    step k e =
+        let one : suc k - 1 ≡ k = omega arith in
+        let size : at + m - at ≡ m = omega arith in
+        rw (e, one, size, drop-drop m at s)
 
 -- a part of the file, as it is cut and laid
 module _ (o : Outline) (s : List ℕ) (bytes : Bytes s) (at : ℕ) (p : Part) (a : At o s at p) where

@@ -1,11 +1,8 @@
 // Rewriting: each part of a file is read, and what its reader answers is written to the same place of the destination.
 ghost use mathlib.Core.Path.{_≡_};
 ghost use mathlib.Core.List.{_++_};
-ghost use Prim.Native.Nat.{_+_, _≤_};
-ghost use mathlib.Core.Bool.{cond};
-ghost use lib.ListN.{length, take, drop};
-ghost use lib.Seq.{sets};
-ghost use Rattle.layout.specs.Layout.{placesOf};
+ghost use Prim.Native.Nat.{_≤_};
+ghost use lib.ListN.{length, drop};
 ghost use Rattle.cursor.specs.Cursor.{leftOf};
 ghost use Rattle.rewrite.specs.Rewritten.{backOf, rewrittenOf};
 ghost use Rattle.rewrite.specs.Back.{headerBack, vlrBack, pointBack, pointsBack, partBack};
@@ -16,13 +13,8 @@ use cursor::Started;
 use format::Format;
 use header::Header;
 use outline::Outline;
-use point::Color;
-use point::MaybeColor;
-use point::MaybeTime;
-use point::MaybeWaveform;
 use point::Point;
 use point::PointRead;
-use point::Waveform;
 use refusal::Refusal;
 use vlr::Vlr;
 
@@ -85,9 +77,9 @@ fn rewrite_part(kind: Kind, src: &[u8], o: Outline, dst: &mut [u8])
         Kind::Vlr => rewrite_vlr(src, false, dst),
         Kind::Gap => copy_gap(src, dst),
         Kind::Points => {
-            let length = o.point_data_record_length as usize;
+            let record_length = o.point_data_record_length as usize;
             let count = o.number_of_point_records as usize;
-            rewrite_points(src, file::point_format(o), length, count, dst)
+            rewrite_points(src, file::point_format(o), record_length, count, dst)
         }
         Kind::Evlr => rewrite_vlr(src, true, dst),
     }
@@ -119,167 +111,29 @@ fn rewrite_vlr(src: &[u8], extended: bool, dst: &mut [u8])
     vlr_write::write_to(vlr, vlr::data(src, extended), dst);
 }
 
-// One record after the other, each into as many bytes of the destination. Records that end after their time have a loop of their own:
-// in one that knows of colour and waveform too, the compiler has no registers left.
+// One record after the other, each into the rest of the destination.
 fn rewrite_points(src: &[u8], format: Format, record_length: usize, count: usize, dst: &mut [u8])
     requires { ⌜ PointsPart format «record_length» count (now src) × (length (now src) ≤ length (now dst)) ⌝ }
     ensures { λ _. ⌜ now (dst .exit) ≡ pointsBack format «record_length» count (now (src .entry)) ++ drop (length (now (src .entry))) (now (dst .entry)) ⌝ }
 {
-    if record_length == layout::places_for(format).color {
-        rewrite_short_points(src, format, record_length, count, dst);
-        return;
-    }
-    rewrite_long_points(src, format, record_length, count, dst);
-}
-
-// Records that end after their time.
-fn rewrite_short_points(
-    src: &[u8],
-    format: Format,
-    record_length: usize,
-    count: usize,
-    dst: &mut [u8],
-)
-    requires { ⌜ PointsPart format «record_length» count (now src) × (length (now src) ≤ length (now dst)) × («record_length» ≡ placesOf format .color) ⌝ }
-    ensures { λ _. ⌜ now (dst .exit) ≡ pointsBack format «record_length» count (now (src .entry)) ++ drop (length (now (src .entry))) (now (dst .entry)) ⌝ }
-{
-    let end = count * record_length;
     let mut at = 0;
-    while at < end {
+    let mut left = count;
+    while left > 0 {
         let next = at + record_length;
-        rewrite_front(&src[at..next], format, &mut dst[at..next]);
+        rewrite_point(&src[at..next], format, &mut dst[at..]);
         at = next;
+        left -= 1;
     }
 }
 
-// Records of any format.
-fn rewrite_long_points(
-    src: &[u8],
-    format: Format,
-    record_length: usize,
-    count: usize,
-    dst: &mut [u8],
-)
-    requires { ⌜ PointsPart format «record_length» count (now src) × (length (now src) ≤ length (now dst)) ⌝ }
-    ensures { λ _. ⌜ now (dst .exit) ≡ pointsBack format «record_length» count (now (src .entry)) ++ drop (length (now (src .entry))) (now (dst .entry)) ⌝ }
-{
-    let end = count * record_length;
-    let mut at = 0;
-    while at < end {
-        let next = at + record_length;
-        rewrite_point(&src[at..next], format, &mut dst[at..next]);
-        at = next;
-    }
-}
-
-// A point and its extra bytes, written from what their readers answer. Each piece is written before the next is read: a whole point
-// would be more than the registers hold.
+// A point and its extra bytes, written from what their readers answer. A whole record is not refused, so the else is not
+// reached.
 fn rewrite_point(src: &[u8], format: Format, dst: &mut [u8])
-    requires { ⌜ PointPart format (now src) × (length (now dst) ≡ length (now src)) ⌝ }
-    ensures { λ _. ⌜ now (dst .exit) ≡ pointBack format (now (src .entry)) ⌝ }
+    requires { ⌜ PointPart format (now src) × (length (now src) ≤ length (now dst)) ⌝ }
+    ensures { λ _. ⌜ now (dst .exit) ≡ pointBack format (now (src .entry)) ++ drop (length (now (src .entry))) (now (dst .entry)) ⌝ }
 {
-    rewrite_front(src, format, dst);
-    let at = layout::places_for(format);
-    rewrite_color(src, format.has_color, at.color, dst);
-    rewrite_nir(src, format.has_nir, at.nir, dst);
-    rewrite_waveform(src, format.has_waveform, at.waveform, dst);
-    rewrite_extra(src, at.extra_bytes, dst);
-}
-
-// What stands before the colour: the fields that all formats have, and the time.
-fn rewrite_front(src: &[u8], format: Format, dst: &mut [u8])
-    requires { ⌜ PointPart format (now src) × (length (now dst) ≡ length (now src)) ⌝ }
-    ensures { λ _. ⌜ now (dst .exit) ≡ sets (now (dst .entry)) 0 (take (placesOf format .color) (now (src .entry))) ⌝ }
-{
-    let core = layout::places_for(format).gps_time;
-    rewrite_core(&src[..core], format.is_extended, &mut dst[..core]);
-    rewrite_time(src, format.has_gps_time, core, dst);
-}
-
-// What stands before the time, which is a record of its own: that of a format with nothing else. It is not refused, so the else is
-// not reached.
-fn rewrite_core(src: &[u8], is_extended: bool, dst: &mut [u8])
-    requires { ⌜ (length (now src) ≡ cond «is_extended» 22 20) × (length (now dst) ≡ length (now src)) ⌝ }
-    ensures { λ _. ⌜ now (dst .exit) ≡ now (src .entry) ⌝ }
-{
-    let bare = Format {
-        has_gps_time: false,
-        has_color: false,
-        is_extended,
-        has_waveform: false,
-        has_nir: false,
-        extra_bytes: 0,
-        is_compressed: false,
-    };
-    let PointRead::Is(point) = Point::read_from(src, bare) else {
+    let PointRead::Is(point) = Point::read_from(src, format) else {
         return;
     };
-    point_write::write_to(point, &[], dst, bare);
-}
-
-// A piece, where the format has it, read and written at its place.
-
-fn rewrite_time(src: &[u8], has: bool, at: usize, dst: &mut [u8])
-    requires { ⌜ (at + cond has 8 0 ≤ length (now src)) × (length (now dst) ≡ length (now src)) ⌝ }
-    ensures { λ _. ⌜ now (dst .exit) ≡ sets (now (dst .entry)) at (take (cond has 8 0) (drop at (now (src .entry)))) ⌝ }
-{
-    if has {
-        let time = MaybeTime::Some(le::f64_at(&src[at..at + 8], 0));
-        let bytes = point_bytes::time_bytes(time);
-        put_at(dst, at, &bytes);
-    }
-}
-
-fn rewrite_color(src: &[u8], has: bool, at: usize, dst: &mut [u8])
-    requires { ⌜ (at + cond has 6 0 ≤ length (now src)) × (length (now dst) ≡ length (now src)) ⌝ }
-    ensures { λ _. ⌜ now (dst .exit) ≡ sets (now (dst .entry)) at (take (cond has 6 0) (drop at (now (src .entry)))) ⌝ }
-{
-    if has {
-        let part = &src[at..at + 6];
-        let color = Color {
-            red: le::u16_at(part, 0),
-            green: le::u16_at(part, 2),
-            blue: le::u16_at(part, 4),
-        };
-        let bytes = point_bytes::color_bytes(MaybeColor::Some(color));
-        put_at(dst, at, &bytes);
-    }
-}
-
-fn rewrite_nir(src: &[u8], has: bool, at: usize, dst: &mut [u8])
-    requires { ⌜ (at + cond has 2 0 ≤ length (now src)) × (length (now dst) ≡ length (now src)) ⌝ }
-    ensures { λ _. ⌜ now (dst .exit) ≡ sets (now (dst .entry)) at (take (cond has 2 0) (drop at (now (src .entry)))) ⌝ }
-{
-    if has {
-        let bytes = le::u16_bytes(le::u16_at(&src[at..at + 2], 0));
-        put_at(dst, at, &bytes);
-    }
-}
-
-fn rewrite_waveform(src: &[u8], has: bool, at: usize, dst: &mut [u8])
-    requires { ⌜ (at + cond has 29 0 ≤ length (now src)) × (length (now dst) ≡ length (now src)) ⌝ }
-    ensures { λ _. ⌜ now (dst .exit) ≡ sets (now (dst .entry)) at (take (cond has 29 0) (drop at (now (src .entry)))) ⌝ }
-{
-    if has {
-        let waveform = MaybeWaveform::Some(Waveform::read_from(&src[at..at + 29]));
-        let bytes = point_bytes::waveform_bytes(waveform);
-        put_at(dst, at, &bytes);
-    }
-}
-
-// The extra bytes, the last of the record.
-fn rewrite_extra(src: &[u8], at: usize, dst: &mut [u8])
-    requires { ⌜ (at ≤ length (now src)) × (length (now dst) ≡ length (now src)) ⌝ }
-    ensures { λ _. ⌜ now (dst .exit) ≡ sets (now (dst .entry)) at (drop at (now (src .entry))) ⌝ }
-{
-    put_at(dst, at, &src[at..]);
-}
-
-// Some bytes at place at. The part that is lent is as long as they are, so that what writes them tests nothing.
-fn put_at(dst: &mut [u8], at: usize, bytes: &[u8])
-    requires { ⌜ at + length (now bytes) ≤ length (now dst) ⌝ }
-    ensures { λ _. ⌜ now (dst .exit) ≡ sets (now (dst .entry)) at (now (bytes .entry)) ⌝ }
-{
-    let end = at + bytes.len();
-    lent::put(&mut dst[at..end], bytes);
+    point_write::write_to(point, point::extra_bytes(src, format), dst, format);
 }

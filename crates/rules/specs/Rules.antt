@@ -50,7 +50,7 @@ formatBytes f = recordBytes (coded f false)
 unfoldable pub headerRules : ℕ → ℕ → Outline → ℕ → List Rule
 headerRules n minor o m =
     let f = o .«point_data_record_format» in
-    let length = o .«point_data_record_length» in
+    let recordLength = o .«point_data_record_length» in
     let offset = o .«offset_to_point_data» in
     -- "Header-size field below standard: 4."
     rule (leb n (o .«header_size»)) (HeaderSize (o .«header_size»)) 0 ∷
@@ -59,7 +59,7 @@ headerRules n minor o m =
     rule (ltb f 128) (Compressed f) 0 ∷
     rule (leb f (highestFormat minor)) (FormatForVersion f) 0 ∷
     -- "Record length below the format's: 8."
-    rule (leb (formatBytes f) length) (ShortRecord length) 0 ∷
+    rule (leb (formatBytes f) recordLength) (ShortRecord recordLength) 0 ∷
     -- "Point offset below header size or beyond the file: 9."
     rule (leb (o .«header_size») offset) (PointOffset offset) 0 ∷
     rule (leb offset m) (PointOffset offset) 0 ∷

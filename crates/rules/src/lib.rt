@@ -1,7 +1,7 @@
 // Document 01, "When a file is accepted": the rules that need no more than the header's outline, 2 to 5, and the walk over records
 // of rules 6 and 8.
 ghost use mathlib.Core.Path.{_≡_};
-ghost use Prim.Native.Nat.{_+_, _<_};
+ghost use Prim.Native.Nat.{_+_, _-_, _<_};
 ghost use Rattle.rules.specs.declared.Checked.the-variants as checked;
 ghost use Rattle.rules.specs.Rules.{first, highestFormat, formatBytes, headerRules, tooFar, noLength, recordRules};
 ghost use Rattle.rules.specs.Steps.{measuredOf};
@@ -10,7 +10,9 @@ use format::FormatLen;
 use format::NewFormat;
 use outline::Outline;
 use refusal::Refusal;
+use vlr::Extent;
 use vlr::RecordLength;
+use vlr::StatedLength;
 
 // Accepted or refused, with the number of records found whole before the answer; a refusal has its record number beside it.
 pub enum Checked {
@@ -59,42 +61,51 @@ pub fn check_header(block: usize, minor: u8, o: Outline, len: usize) -> Checked
     Checked::Accepted { records: 0 }
 }
 
-// `count` records at the start of `rest`, one after the other, after `found` others; each spends one of the allowance.
+// `count` records at the start of `rest`, one after the other, after `found` others; each spends one of what those left of the
+// allowance.
 pub fn check_records(rest: &[u8], extended: bool, allowance: u64, found: u32, count: u32) -> Checked
     ensures { λ r. ⌜ r ≡ first (recordRules extended allowance found count (now (rest .entry))) (checked.Accepted (found + count)) ⌝ }
 {
     let mut at: usize = 0;
+    let mut whole = found as u64;
+    let mut allowed = unspent(allowance, whole);
     let mut left = count;
     while left > 0 {
-        let whole = (found as u64) + ((count - left) as u64);
-        if allowance <= whole {
+        if allowed == 0 {
             return refused_record(Refusal::Allowance(allowance), whole);
         }
+        allowed -= 1;
         match measure(&rest[at..], extended) {
             Measured::Bytes(n) => at += n,
             Measured::Refused(refusal) => return refused_record(refusal, whole),
         }
+        whole += 1;
         left -= 1;
     }
-    Checked::Accepted {
-        records: (found as u64) + (count as u64),
+    Checked::Accepted { records: whole }
+}
+
+// What is left of an allowance of which some is spent.
+fn unspent(allowance: u64, spent: u64) -> u64
+    ensures { λ r. ⌜ r ≡ allowance - spent ⌝ }
+{
+    if allowance < spent {
+        return 0;
     }
+    allowance - spent
 }
 
 // How many bytes the record at the start of `rest` takes; 11, for an EVLR 13, where it ends too late.
 fn measure(rest: &[u8], extended: bool) -> Measured
     ensures { λ r. ⌜ r ≡ measuredOf extended (now (rest .entry)) ⌝ }
 {
-    let head = vlr::head_size(extended);
-    if rest.len() < head {
+    let StatedLength::Is(stated) = vlr::stated(rest, extended) else {
         return Measured::Refused(too_far(no_length(extended)));
+    };
+    match vlr::measure(rest, extended) {
+        Extent::Bytes(n) => Measured::Bytes(n),
+        Extent::Refused(_) => Measured::Refused(too_far(stated)),
     }
-    let stated = vlr::stated(rest, extended);
-    let length = stated.to_u64();
-    if ((rest.len() - head) as u64) < length {
-        return Measured::Refused(too_far(stated));
-    }
-    Measured::Bytes(head + length as usize)
 }
 
 // 11 or 13 with the length field.

@@ -21,6 +21,10 @@ pub description-last : (extended : Bool) → place extended Description + width 
 description-last true = refl
 description-last false = refl
 
+pub head-least : (extended : Bool) → 54 ≤ headSize extended
+head-least true = omega arith
+head-least false = omega arith
+
 pub head-at-most : (extended : Bool) → headSize extended ≤ 60
 head-at-most true = omega arith
 head-at-most false = omega arith

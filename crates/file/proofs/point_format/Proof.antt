@@ -10,16 +10,16 @@ returns : tie.Need-returns
 unfolding pointFormat
 returns c =
     let m = c .before .before .before in
-    let length = m .before .args .o .«point_data_record_length» in
-    c .default .ensures ∙ ap (filled length) (sym (c .before .enum-told .given .1) ∙ m .new .ensures)
+    let recordLength = m .before .args .o .«point_data_record_length» in
+    c .default .ensures ∙ ap (filled recordLength) (sym (c .before .enum-told .given .1) ∙ m .new .ensures)
 
 returns-2 : tie.Need-returns-2
 unfolding pointFormat
 returns-2 c =
     let x = c .before .before in
     let m = x .before .before in
-    let length = m .before .args .o .«point_data_record_length» in
-    ap (λ (n : ℕ). withExtra n (x .format .given .0 .0)) (c .beyond .ensures) ∙ ap (filled length) (sym (x .format .given .1) ∙ m .new .ensures)
+    let recordLength = m .before .args .o .«point_data_record_length» in
+    ap (λ (n : ℕ). withExtra n (x .format .given .0 .0)) (c .beyond .ensures) ∙ ap (filled recordLength) (sym (x .format .given .1) ∙ m .new .ensures)
 
 pub point-format-spec : {M : Type 1} → statement M
 point-format-spec =

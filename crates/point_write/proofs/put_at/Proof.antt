@@ -1,4 +1,3 @@
-use mathlib.Core.Path.{refl}
 use borrow.Author.Needs.{needs}
 use Rattle.point_write.proofs.Piece.{exact}
 use Rattle.point_write.proofs.put_at.Statement.{statement}
@@ -8,7 +7,7 @@ returns : tie.Need-returns
 returns c =
     let p = c .before .before in
     let s = p .before .before .before .before in
-    (refl, exact (s .args .dst .now) (s .args .bytes .now) (p .put .last .0) (s .args .at) (p .put .result) (s .pre) (p .put .ensures))
+    exact (s .args .dst .now) (s .args .bytes .now) (p .put .last .0) (s .args .at) (p .put .result) (s .pre) (p .put .ensures)
 
 pub put-at-spec : {M : Type 1} → statement M
 put-at-spec =

@@ -1,128 +1,137 @@
--- Piece after piece: after each, what is still to come fits, and written from there it makes the whole.
-use Prim.Native.Nat.{ℕ, _+_, _≤_}
-use mathlib.Core.Path.{_≡_, sym, ap, _∙_}
+-- Piece after piece, each at the table's place for it.
+use Prim.Native.Nat.{ℕ, _≤_}
+use mathlib.Core.Path.{_≡_, refl, ap, sym, _∙_}
+use mathlib.Core.Bool.{Bool, true}
 use mathlib.Core.List.{List, _++_}
-use borrow.Author.Needs.{needs}
+use mathlib.Core.Logic.{⊎-elim}
 use native.Mathlib.Omega.{arith}
+use borrow.Author.Needs.{needs}
 use lib.ListN.{length}
 use lib.Seq.{sets}
-use Rattle.lent.specs.Laws.{room, next, tail}
-use Rattle.point_bytes.specs.Bytes.{timeBytes, colorBytes, nirBytes, waveformBytes}
-use Rattle.point_write.specs.Write.{onlyBytes}
-use Rattle.point_write.specs.Laws.{fromColor, fromNir, fromWaveform, rest-is, no-stores}
+use Rattle.fields.specs.Table.{Stored, done, store}
+use Rattle.fields.specs.Laws.{then}
+use Rattle.fields.specs.Total.{stored-length}
+use Rattle.format.specs.declared.Field.the-variants.{GpsTime, Color, Nir, Waveform, ExtraBytes}
+use Rattle.format.specs.declared.Field.{Field}
+use Rattle.format.specs.Fields.{only, restOf, sizeOf, placeOf, recordBytes}
+use Rattle.layout.specs.Placed.{Placed, placed}
+use Rattle.point_write.specs.Write.{fieldBytes}
+use Rattle.point_write.specs.Taken.{time-length, color-length, nir-length, waveform-length}
+use Rattle.point_write.proofs.Laid.{lacking, there, fits, no-stores}
 use Rattle.point_write.proofs.write_rest.Statement.{statement}
 use Rattle.point_write.proofs.write_rest.Tie as tie
 
-abbrev time : tie.Start → List ℕ
-time s = onlyBytes (s .args .format .«has_gps_time») (timeBytes (s .args .point .«gps_time»))
+module _ (c : tie.After-places-for) where
+  abbrev begun : tie.Start
+  begun = c .before .before .before
 
-abbrev color : tie.Start → List ℕ
-color s = onlyBytes (s .args .format .«has_color») (colorBytes (s .args .point .«color»))
+  abbrev Put : List ℕ → List Field → List ℕ → Type 0
+  Put = Stored (sizeOf (begun .args .format)) (placeOf (begun .args .format)) (fieldBytes (begun .args .format) (begun .args .point) (begun .args .extra .now))
 
-abbrev nir : tie.Start → List ℕ
-nir s = onlyBytes (s .args .format .«has_nir») (nirBytes (s .args .point .«nir»))
+  at : Placed (begun .args .format) (c .places-for .result)
+  at = placed (begun .args .format) (c .places-for .ensures)
 
-abbrev waveform : tie.Start → List ℕ
-waveform s = onlyBytes (s .args .format .«has_waveform») (waveformBytes (s .args .point .«waveform»))
+  -- what a piece leaves is as long as what it found
+  kept : {d r : List ℕ} {xs : List Field} → Put d xs r → length r ≡ length d
+  kept st = stored-length (sizeOf (begun .args .format)) (placeOf (begun .args .format)) _ st
 
-abbrev after-time : tie.Start → List ℕ
-after-time s = fromColor (s .args .format) (s .args .point) (s .args .extra .now)
+  -- a piece, and then more
+  and : {d r z : List ℕ} {xs ys : List Field} → Put d xs r → Put r ys z → Put d (xs ++ ys) z
+  and = then (sizeOf (begun .args .format)) (fieldBytes (begun .args .format) (begun .args .point) (begun .args .extra .now)) (placeOf (begun .args .format))
 
-abbrev after-color : tie.Start → List ℕ
-after-color s = fromNir (s .args .format) (s .args .point) (s .args .extra .now)
+to-time : (c : tie.Joined1) → Put (c .before) (begun (c .before) .args .dst .now) (only (begun (c .before) .args .format .«has_gps_time») GpsTime) (c .if1 .dst)
+to-time c =
+    let a = begun (c .before) .args in
+    let long = time-length (a .point .«gps_time») in
+    ⊎-elim (λ w. there (a .format) (a .point) (a .extra .now) GpsTime long (at (c .before) .time) (w .2 .ensures) (w .0 .taken) (w .7 ∙ w .4 .ensures))
+    (λ w. lacking (a .format) (a .point) (a .extra .now) GpsTime long (w .0 .left) (w .1)) (c .if1 .came)
 
-abbrev after-nir : tie.Start → List ℕ
-after-nir s = fromWaveform (s .args .format) (s .args .point) (s .args .extra .now)
+to-color : (c : tie.Joined2) → Put (c .before .before) (c .before .if1 .dst) (only (begun (c .before .before) .args .format .«has_color») Color) (c .if2 .dst)
+to-color c =
+    let a = begun (c .before .before) .args in
+    let long = color-length (a .point .color) in
+    ⊎-elim (λ w. there (a .format) (a .point) (a .extra .now) Color long (at (c .before .before) .color) (w .2 .ensures) (w .0 .taken) (w .7 ∙ w .4 .ensures))
+    (λ w. lacking (a .format) (a .point) (a .extra .now) Color long (w .0 .left) (w .1)) (c .if2 .came)
 
-abbrev after-waveform : tie.Start → List ℕ
-after-waveform s = s .args .extra .now
+to-nir : (c : tie.Joined3) → Put (c .before .before .before) (c .before .if2 .dst) (only (begun (c .before .before .before) .args .format .«has_nir») Nir) (c .if3 .dst)
+to-nir c =
+    let a = begun (c .before .before .before) .args in
+    let long = nir-length (a .point .nir) in
+    ⊎-elim (λ w. there (a .format) (a .point) (a .extra .now) Nir long (at (c .before .before .before) .nir) (w .2 .ensures) (w .0 .taken) (w .7 ∙ w .4 .ensures))
+    (λ w. lacking (a .format) (a .point) (a .extra .now) Nir long (w .0 .left) (w .1)) (c .if3 .came)
 
--- in a list d, from a place on, the rest fits and makes the whole
-abbrev Going : tie.Start → List ℕ → ℕ → List ℕ → Type 0
-Going s d at rest = (at + length rest ≤ length d) × (sets d at rest ≡ sets (s .args .dst .now) (s .args .at) (time s ++ after-time s))
+to-waveform : (c : tie.Joined4) → Put (c .before .before .before .before) (c .before .if3 .dst) (only (begun (c .before .before .before .before) .args .format .«has_waveform») Waveform) (c .if4 .dst)
+to-waveform c =
+    let a = begun (c .before .before .before .before) .args in
+    let long = waveform-length (a .point .waveform) in
+    ⊎-elim (λ w. there (a .format) (a .point) (a .extra .now) Waveform long (at (c .before .before .before .before) .waveform) (w .2 .ensures) (w .0 .taken) (w .7 ∙ w .4 .ensures))
+    (λ w. lacking (a .format) (a .point) (a .extra .now) Waveform long (w .0 .left) (w .1)) (c .if4 .came)
 
-start : (s : tie.Start) → s .args .at + length (time s ++ after-time s) ≤ length (s .args .dst .now)
-start s = rw (rest-is (s .args .format) (s .args .point) (s .args .extra .now)) at (s .pre)
+-- so each has room
+put-at-requires : tie.Need-put-at-requires
+put-at-requires c κs =
+    let b = c .before in
+    let p = b .before .before .before in
+    let a = begun p .args in
+    fits (a .format) (a .point) (a .extra .now) GpsTime (time-length (a .point .«gps_time»)) (at p .time) (b .time-bytes .ensures) _ (b .before .before .if1 .taken) (begun p .pre .1)
 
-past-time : (c : tie.After-put-time) → Going (c .before .before .before .before) (c .put-time .last .0) (c .put-time .result) (after-time (c .before .before .before .before))
-past-time c =
-    let s = c .before .before .before .before in
-    let e = c .put-time .ensures in
-    next (s .args .dst .now) (time s) (after-time s) (c .put-time .last .0) (s .args .at) (c .put-time .result) (start s) (e .0) (e .1)
+put-at-requires-2 : tie.Need-put-at-requires-2
+put-at-requires-2 c κs =
+    let b = c .before in
+    let j = b .before .before .before in
+    let p = j .before in
+    let a = begun p .args in
+    fits (a .format) (a .point) (a .extra .now) Color (color-length (a .point .color)) (at p .color) (b .color-bytes .ensures) _ (b .before .before .if2 .taken) (omega (arith, begun p .pre .1, kept p (to-time j)))
 
-past-color : (c : tie.After-put-color) → Going (c .before .before .before .before .before .before .before .before) (c .put-color .last .0) (c .put-color .result) (after-color (c .before .before .before .before .before .before .before .before))
-past-color c =
-    let s = c .before .before .before .before .before .before .before .before in
-    let b = c .before .before .before .before in
-    let g = past-time b in
-    let e = c .put-color .ensures in
-    let h = next (b .put-time .last .0) (color s) (after-color s) (c .put-color .last .0) (b .put-time .result) (c .put-color .result) (g .0) (e .0) (e .1) in
-    (h .0, h .1 ∙ g .1)
+put-at-requires-3 : tie.Need-put-at-requires-3
+put-at-requires-3 c κs =
+    let b = c .before in
+    let j = b .before .before .before in
+    let p = j .before .before in
+    let a = begun p .args in
+    fits (a .format) (a .point) (a .extra .now) Nir (nir-length (a .point .nir)) (at p .nir) (b .nir-bytes .ensures) _ (b .before .before .if3 .taken) (omega (arith, begun p .pre .1, kept p (to-time (j .before)), kept p (to-color j)))
 
-past-nir : (c : tie.After-put-nir) → Going (c .before .before .before .before .before .before .before .before .before .before .before .before) (c .put-nir .last .0) (c .put-nir .result) (after-nir (c .before .before .before .before .before .before .before .before .before .before .before .before))
-past-nir c =
-    let s = c .before .before .before .before .before .before .before .before .before .before .before .before in
-    let b = c .before .before .before .before in
-    let g = past-color b in
-    let e = c .put-nir .ensures in
-    let h = next (b .put-color .last .0) (nir s) (after-nir s) (c .put-nir .last .0) (b .put-color .result) (c .put-nir .result) (g .0) (e .0) (e .1) in
-    (h .0, h .1 ∙ g .1)
+put-at-requires-4 : tie.Need-put-at-requires-4
+put-at-requires-4 c κs =
+    let b = c .before in
+    let j = b .before .before .before in
+    let p = j .before .before .before in
+    let a = begun p .args in
+    fits (a .format) (a .point) (a .extra .now) Waveform (waveform-length (a .point .waveform)) (at p .waveform) (b .waveform-bytes .ensures) _ (b .before .before .if4 .taken) (omega (arith, begun p .pre .1, kept p (to-time (j .before .before)), kept p (to-color (j .before)), kept p (to-nir j)))
 
-past-waveform : (c : tie.After-put-waveform) → Going (c .before .before .before .before .before .before .before .before .before .before .before .before .before .before .before .before) (c .put-waveform .last .0) (c .put-waveform .result) (after-waveform (c .before .before .before .before .before .before .before .before .before .before .before .before .before .before .before .before))
-past-waveform c =
-    let s = c .before .before .before .before .before .before .before .before .before .before .before .before .before .before .before .before in
-    let b = c .before .before .before .before in
-    let g = past-nir b in
-    let e = c .put-waveform .ensures in
-    let h = next (b .put-nir .last .0) (waveform s) (after-waveform s) (c .put-waveform .last .0) (b .put-nir .result) (c .put-waveform .result) (g .0) (e .0) (e .1) in
-    (h .0, h .1 ∙ g .1)
+-- the four pieces together, and the extra bytes
+module _ (j : tie.Joined4) where
+  abbrev p : tie.After-places-for
+  p = j .before .before .before .before
 
-put-time-requires : tie.Need-put-time-requires
-put-time-requires c κs =
-    let s = c .before .before .before in
-    room (s .args .dst .now) (time s) (after-time s) (s .args .at) (start s)
+  whole : recordBytes (begun p .args .format) ≤ length (j .if4 .dst)
+  whole = omega (arith, begun p .pre .1, kept p (to-time (j .before .before .before)), kept p (to-color (j .before .before)), kept p (to-nir (j .before)), kept p (to-waveform j))
 
-put-color-requires : tie.Need-put-color-requires
-put-color-requires c κs =
-    let b = c .before .before .before in
-    let s = b .before .before .before .before in
-    room (b .put-time .last .0) (color s) (after-color s) (b .put-time .result) (past-time b .0)
+  all : {r : List ℕ} → r ≡ sets (j .if4 .dst) (placeOf (begun p .args .format) ExtraBytes) (begun p .args .extra .now) → Put p (begun p .args .dst .now) (restOf (begun p .args .format)) r
+  all put =
+      and p (to-time (j .before .before .before)) (and p (to-color (j .before .before)) (and p (to-nir (j .before)) (and p (to-waveform j) (store put (begun p .pre .0) done))))
 
-put-nir-requires : tie.Need-put-nir-requires
-put-nir-requires c κs =
-    let b = c .before .before .before in
-    let s = b .before .before .before .before .before .before .before .before in
-    room (b .put-color .last .0) (nir s) (after-nir s) (b .put-color .result) (past-color b .0)
-
-put-waveform-requires : tie.Need-put-waveform-requires
-put-waveform-requires c κs =
-    let b = c .before .before .before in
-    let s = b .before .before .before .before .before .before .before .before .before .before .before .before in
-    room (b .put-nir .last .0) (waveform s) (after-waveform s) (b .put-nir .result) (past-nir b .0)
-
--- the last piece, the extra bytes, starts within what is left
-last-fits : (g : tie.After-put-waveform) → g .put-waveform .result ≤ length (g .put-waveform .last .0)
-last-fits g = omega (arith, past-waveform g .0)
+put-at-requires-5 : tie.Need-put-at-requires-5
+put-at-requires-5 c κs =
+    let j = c .before .before in
+    let a = begun (p j) .args in
+    fits (a .format) (a .point) (a .extra .now) ExtraBytes (begun (p j) .pre .0) (at (p j) .extra) refl _ refl (whole j)
 
 returns : tie.Need-returns
 returns c =
-    let p = c .before .before in
-    let g = p .before .before .before .before .before in
-    let s = g .before .before .before .before .before .before .before .before .before .before .before .before .before .before .before .before in
-    let w = past-waveform g in
-    tail (g .put-waveform .last .0) (s .args .extra .now) (p .put .last .0) (g .put-waveform .result) (p .put .result) (w .0) (p .put .ensures)
-    ∙ w .1 ∙ ap (sets (s .args .dst .now) (s .args .at)) (sym (rest-is (s .args .format) (s .args .point) (s .args .extra .now)))
+    let q = c .before .before in
+    let j = q .before .before .before in
+    all j (q .put-at5 .ensures ∙ ap (λ (n : ℕ). sets (j .if4 .dst) n (begun (p j) .args .extra .now)) (at (p j) .extra))
 
 returns-2 : tie.Need-returns-2
 returns-2 c =
-    let g = c .before .before .before in
-    let s = g .before .before .before .before .before .before .before .before .before .before .before .before .before .before .before .before in
-    no-stores (g .put-waveform .last .0) (g .put-waveform .result) (s .args .extra .now) (c .if1 .left)
-    ∙ past-waveform g .1 ∙ ap (sets (s .args .dst .now) (s .args .at)) (sym (rest-is (s .args .format) (s .args .point) (s .args .extra .now)))
+    let j = c .before in
+    all j (no-stores (j .if4 .dst) _ (begun (p j) .args .extra .now) (c .if5 .left))
 
 pub write-rest-spec : {M : Type 1} → statement M
 write-rest-spec =
     tie.close
     (tie.spec
-    put-time-requires put-color-requires put-nir-requires put-waveform-requires (λ c. last-fits (c .before .before .before))
-    (λ c. last-fits (c .before .before .before)) (λ c. search needs) (λ c κs. search needs) (λ c. search needs) returns (λ c. search needs) returns-2)
+    (λ c κs. search needs) (λ c κs. search needs) (λ c. search needs) put-at-requires (λ c κs. search needs) (λ c. search needs) put-at-requires-2
+    (λ c κs. search needs) (λ c. search needs) put-at-requires-3 (λ c κs. search needs) (λ c. search needs) put-at-requires-4 put-at-requires-5
+    (λ c. kept (p (c .before .before .before .before .before)) (returns c)) returns (λ c. kept (p (c .before)) (returns-2 c)) returns-2)

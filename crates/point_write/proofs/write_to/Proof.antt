@@ -1,7 +1,7 @@
 -- By what the format's length answers.
 use mathlib.Core.Path.{sym, ap, _∙_}
 use borrow.Author.Needs.{needs}
-use Rattle.format.specs.Laws.{len-is}
+use Rattle.format.specs.Length.{len-is}
 use Rattle.point_write.specs.Write.{writtenAfter, writtenOf}
 use Rattle.point_write.proofs.write_to.Statement.{statement}
 use Rattle.point_write.proofs.write_to.Tie as tie
