@@ -10,5 +10,6 @@ pub mod Found
 pub mod Again
 pub mod Past
 pub mod Accepted
+pub mod Octets
 -- theorems
 pub mod Theorems
