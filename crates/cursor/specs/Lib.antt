@@ -5,4 +5,5 @@ pub mod Count
 pub mod Stays
 pub mod Accepted
 pub mod Covers
+pub mod Starts
 pub mod Theorems

@@ -1,3 +1,4 @@
 pub mod Layout
 pub mod Following
+pub mod Placed
 pub mod Theorems
