@@ -8,20 +8,20 @@ use Rattle.refusal.specs.declared.Refusal.the-variants.{PointExtent}
 use Rattle.header.specs.declared.EndOfPoints.the-variants.{Is, Refused}
 use Rattle.header.specs.Header.{endOf}
 
-module _ (offset points length : ℕ) (o : offset < 2 ^ 32) (l : 0 < length) where
+module _ (offset points each : ℕ) (o : offset < 2 ^ 32) (l : 0 < each) where
   -- what the test lets through fits
-  pub fits : points ≤ (18446744073709551615 - offset) / length → offset + points * length < 2 ^ 64
-  fits h = let p : points * length ≤ 18446744073709551615 - offset = le-div-iff-mul-le l .0 h in omega arith
+  pub fits : points ≤ (18446744073709551615 - offset) / each → offset + points * each < 2 ^ 64
+  fits h = let p : points * each ≤ 18446744073709551615 - offset = le-div-iff-mul-le l .0 h in omega arith
 
-  pub reached : points ≤ (18446744073709551615 - offset) / length → Is (offset + points * length) ≡ endOf offset points length
+  pub reached : points ≤ (18446744073709551615 - offset) / each → Is (offset + points * each) ≡ endOf offset points each
   unfolding endOf
   reached h = rw (lt-ltb _ _ (fits h))
 
-  pub beyond : (18446744073709551615 - offset) / length < points → Refused (PointExtent points) ≡ endOf offset points length
+  pub beyond : (18446744073709551615 - offset) / each < points → Refused (PointExtent points) ≡ endOf offset points each
   unfolding endOf
   beyond h =
-      let p : 18446744073709551615 - offset < points * length = div-lt-iff-lt-mul l .0 h in
-      rw (le-ltb (offset + points * length) (2 ^ 64) (omega arith))
+      let p : 18446744073709551615 - offset < points * each = div-lt-iff-lt-mul l .0 h in
+      rw (le-ltb (offset + points * each) (2 ^ 64) (omega arith))
 
 -- records of no bytes end where they begin
 pub empty : (offset points : ℕ) → offset < 2 ^ 32 → Is offset ≡ endOf offset points 0

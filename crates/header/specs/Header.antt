@@ -4,11 +4,12 @@ use mathlib.Core.Bool.{false, cond}
 use mathlib.Core.List.{List, [], _∷_}
 use lib.Dec.{eqb, ltb}
 use lib.Ieee.{Float, ofBits, binary64}
-use lib.ListN.{take, drop, replicate}
+use lib.ListN.{replicate}
 use Rattle.le.specs.Le.{num}
 use Rattle.le.specs.Real.{f64Of}
 use Rattle.le.specs.declared.float.F64.{F64}
 use Rattle.refusal.specs.declared.Refusal.the-variants.{PointExtent}
+use Rattle.fields.specs.Table as fields
 use Rattle.header.specs.declared.Header.{Header}
 use Rattle.header.specs.declared.Nans.{Nans}
 use Rattle.header.specs.declared.OptionU64.{OptionU64}
@@ -23,7 +24,7 @@ use Rattle.header.specs.Layout.{Field, FileSourceId, GlobalEncoding, Gui
 -- A field in a block of bytes: its bytes, the number they are, the numbers of w bytes that they are, the float they are.
 -- What lies past the block's end counts as 0, so a field that the version lacks reads as 0.
 abbrev pub part : Field → List ℕ → List ℕ
-part f b = take (width f) (drop (place f) b)
+part f b = fields.part (width f) (place f) b
 
 abbrev pub number : Field → List ℕ → ℕ
 number f b = num (width f) (place f) b
@@ -175,8 +176,8 @@ pointsOf h = cond (eqb (h .«number_of_point_records») 0) (largeBack h .«numbe
 
 -- the first byte after the points, by the header's own record length; 12 with the count where that is 2 ^ 64 or more
 unfoldable pub endOf : ℕ → ℕ → ℕ → EndOfPoints
-endOf offset points length =
-    cond (ltb (offset + points * length) (2 ^ 64)) (end.Is (offset + points * length)) (end.Refused (PointExtent points))
+endOf offset points each =
+    cond (ltb (offset + points * each) (2 ^ 64)) (end.Is (offset + points * each)) (end.Refused (PointExtent points))
 
 unfoldable pub endOfPoints : Header → EndOfPoints
 endOfPoints h = endOf (h .«offset_to_point_data») (pointsOf h) (h .«point_data_record_length»)

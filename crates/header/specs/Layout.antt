@@ -1,8 +1,9 @@
 -- The public header block as data: LAS 1.4 R15, table "Public Header Block"; document 01, "Record layouts".
-use Prim.Native.Nat.{ℕ, _+_}
+use Prim.Native.Nat.{ℕ}
 use mathlib.Core.Bool.{cond}
 use mathlib.Core.List.{List, [], _∷_, _++_}
 use lib.Dec.{ltb}
+use Rattle.fields.specs.Table.{total}
 
 pub data Field : Type 0 where
   FileSignature FileSourceId GlobalEncoding Guid VersionMajor VersionMinor SystemIdentifier GeneratingSoftware : Field
@@ -92,10 +93,4 @@ fieldsOf minor = cond (ltb minor 3) fields12 (cond (ltb minor 4) fields13 fields
 
 -- the bytes of some fields together
 abbrev pub size : List Field → ℕ
-size [] = 0
-size (f ∷ fs) = width f + size fs
-
--- where fields that follow each other from n on begin
-abbrev pub starts : ℕ → List Field → List ℕ
-starts n [] = []
-starts n (f ∷ fs) = n ∷ starts (n + width f) fs
+size fs = total width fs

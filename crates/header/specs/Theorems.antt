@@ -1,25 +1,26 @@
 -- What the definitions add up to.
 use Prim.Native.Nat.{ℕ}
 use mathlib.Core.Path.{_≡_, refl, sym, ap, _∙_}
-use mathlib.Core.List.{List, map}
+use mathlib.Core.List.{List}
 use lib.ListN.{take, drop}
 use lib.Seq.{take-take}
+use Rattle.fields.specs.Table.{Follow}
 use Rattle.header.specs.declared.HeaderAnswer.{HeaderAnswer}
 use Rattle.header.specs.declared.HeaderAnswer.the-variants.{Whole}
-use Rattle.header.specs.Layout.{place, fields12, fields13, fields14, size, starts}
+use Rattle.header.specs.Layout.{place, width, fields12, fields13, fields14, size}
 use Rattle.header.specs.Header.{headerOf}
 use Rattle.header.specs.Judged.{judged, readBy, readOf, paddingBy, paddingOf}
 use Rattle.header.specs.Window.{drop-take}
 use Rattle.header.specs.Laws.{within, agreed}
 
 -- "Fields stand in the order of `Header::read_from`": from byte 0 on, without gap or overlap.
-pub follow-12 : map place fields12 ≡ starts 0 fields12
+pub follow-12 : Follow width place 0 fields12
 follow-12 = refl
 
-pub follow-13 : map place fields13 ≡ starts 0 fields13
+pub follow-13 : Follow width place 0 fields13
 follow-13 = refl
 
-pub follow-14 : map place fields14 ≡ starts 0 fields14
+pub follow-14 : Follow width place 0 fields14
 follow-14 = refl
 
 -- "Header sizes, from the standard: 227 for 1.0 to 1.2, 235 for 1.3, 375 for 1.4"

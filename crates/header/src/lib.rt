@@ -7,6 +7,9 @@ ghost use Rattle.header.specs.Header.{part, numbers, startOf, evlrOf, na
 ghost use Rattle.header.specs.Judged.{eqList, standardOf, sized, versioned, judged, readOf, paddingOf};
 use refusal::Refusal;
 
+// What every header begins with.
+pub const LASF: [u8; 4] = *b"LASF";
+
 pub struct Version {
     pub major: u8,
     pub minor: u8,
@@ -165,8 +168,8 @@ impl Header {
         ensures { λ r. ⌜ r ≡ endOfPoints self ⌝ }
     {
         let offset = self.offset_to_point_data;
-        let length = self.point_data_record_length;
-        end_of_points(offset, self.number_of_point_records(), length)
+        let each = self.point_data_record_length;
+        end_of_points(offset, self.number_of_point_records(), each)
     }
 
     // Version 1.2, format 0, no points.
@@ -281,7 +284,7 @@ fn is_lasf(s: &[u8]) -> bool
     requires { ⌜ 4 ≤ length (now s) ⌝ }
     ensures { λ r. ⌜ r ≡ eqList (part FileSignature (now (s .entry))) lasf ⌝ }
 {
-    check::same(&s[..4], b"LASF")
+    check::same(&s[..4], &LASF)
 }
 
 // The header in the standard block of its version. What the version lacks lies past the block and is read as 0, so as
@@ -437,17 +440,17 @@ fn evlr_of(start_of_first_evlr: u64, number_of_evlrs: u32) -> OptionEvlr
     })
 }
 
-// `offset + points * length`, or 12: the product is tested by a division, so nothing wraps.
-fn end_of_points(offset: u32, points: u64, length: u16) -> EndOfPoints
-    ensures { λ r. ⌜ r ≡ endOf offset points length ⌝ }
+// `offset + points * each`, or 12: the product is tested by a division, so nothing wraps.
+fn end_of_points(offset: u32, points: u64, each: u16) -> EndOfPoints
+    ensures { λ r. ⌜ r ≡ endOf offset points each ⌝ }
 {
     let offset = offset as u64;
-    let length = length as u64;
-    if length == 0 {
+    let each = each as u64;
+    if each == 0 {
         return EndOfPoints::Is(offset);
     }
-    if (18446744073709551615 - offset) / length < points {
+    if (18446744073709551615 - offset) / each < points {
         return EndOfPoints::Refused(Refusal::PointExtent(points));
     }
-    EndOfPoints::Is(offset + points * length)
+    EndOfPoints::Is(offset + points * each)
 }

@@ -9,8 +9,9 @@ use lib.Seq.{take-at, drop-at, drop-drop}
 use Rattle.le.specs.Le.{le, num, bytes}
 use Rattle.le.specs.Laws.{le-bytes, length-bytes, num-past}
 use Rattle.le.specs.Real.{f64Of, f64BitsOf, f64-kept}
+use Rattle.fields.specs.Table.{starts}
 use Rattle.header.specs.declared.Header.{Header}
-use Rattle.header.specs.Layout.{Field, place, width, starts}
+use Rattle.header.specs.Layout.{Field, place, width}
 use Rattle.header.specs.Header.{nums}
 use Rattle.header_write.specs.Bytes.{many, realBytes, fieldBytes, run}
 use Rattle.header_write.specs.Table.{All, none, _&_}
@@ -21,11 +22,11 @@ pub record There (b : List ℕ) (at : ℕ) (bs : List ℕ) : Type 0 where
   pub here : drop at b ≡ bs ++ rest
 
 -- fields that follow each other stand at their places in what they are written to
-pub found : (h : Header) (b : List ℕ) (fs : List Field) (n : ℕ) (rest : List ℕ) → map place fs ≡ starts n fs → All (λ (f : Field). length (fieldBytes h f) ≡ width f) fs → drop n b ≡ run h fs ++ rest → All (λ (f : Field). There b (place f) (fieldBytes h f)) fs
+pub found : (h : Header) (b : List ℕ) (fs : List Field) (n : ℕ) (rest : List ℕ) → map place fs ≡ starts width n fs → All (λ (f : Field). length (fieldBytes h f) ≡ width f) fs → drop n b ≡ run h fs ++ rest → All (λ (f : Field). There b (place f) (fieldBytes h f)) fs
 found h b [] n rest p none q = none
 found h b (f ∷ fs) n rest p (w & ws) q =
     let at : place f ≡ n = cc in
-    let next : map place fs ≡ starts (n + width f) fs = cc in
+    let next : map place fs ≡ starts width (n + width f) fs = cc in
     let split : drop n b ≡ fieldBytes h f ++ (run h fs ++ rest) = q ∙ append-assoc (fieldBytes h f) (run h fs) rest in
     let after : drop (n + width f) b ≡ run h fs ++ rest =
     sym (drop-drop (width f) n b) ∙ ap (drop (width f)) split ∙ drop-at (fieldBytes h f) (run h fs ++ rest) (width f) w in

@@ -10,8 +10,9 @@ use lib.Seq.{sets, take-add, drop-drop}
 use Rattle.le.specs.Le.{bytes}
 use Rattle.le.specs.Laws.{length-bytes}
 use Rattle.lent.specs.Laws.{sets-append}
+use Rattle.fields.specs.Table.{starts}
 use Rattle.header.specs.declared.Header.{Header}
-use Rattle.header.specs.Layout.{Field, place, width, fields12, fields13, fields14, fieldsOf, size, starts}
+use Rattle.header.specs.Layout.{Field, place, width, fields12, fields13, fields14, fieldsOf, size}
 use Rattle.header.specs.Header.{part}
 use Rattle.header_write.specs.Bytes.{many, fieldBytes, run, block}
 
@@ -45,10 +46,10 @@ each {P} m a = go (ltb m 3) (ltb m 4)
     go false false = a
 
 -- the fields of a version follow each other from 0 on
-pub follows : (m : ℕ) → map place (fieldsOf m) ≡ starts 0 (fieldsOf m)
+pub follows : (m : ℕ) → map place (fieldsOf m) ≡ starts width 0 (fieldsOf m)
 follows m = go (ltb m 3) (ltb m 4)
   where
-    go : (a b : Bool) → map place (cond a fields12 (cond b fields13 fields14)) ≡ starts 0 (cond a fields12 (cond b fields13 fields14))
+    go : (a b : Bool) → map place (cond a fields12 (cond b fields13 fields14)) ≡ starts width 0 (cond a fields12 (cond b fields13 fields14))
     go true b = refl
     go false true = refl
     go false false = refl
@@ -83,12 +84,12 @@ module _ (h : Header) where
   then d xs ys p q = record { bytes = stored-then d xs ys (p .bytes) (q .bytes); wide = both (p .wide) (q .wide) }
 
   -- fields put at their places are their bytes put where the first begins
-  stored-run : (fs : List Field) (d : List ℕ) (n : ℕ) → map place fs ≡ starts n fs → All (λ (f : Field). length (fieldBytes h f) ≡ width f) fs → stored d fs ≡ sets d n (run h fs)
+  stored-run : (fs : List Field) (d : List ℕ) (n : ℕ) → map place fs ≡ starts width n fs → All (λ (f : Field). length (fieldBytes h f) ≡ width f) fs → stored d fs ≡ sets d n (run h fs)
   unfolding stored
   stored-run [] d n p none = refl
   stored-run (f ∷ fs) d n p (w & ws) =
       let at : place f ≡ n = cc in
-      let rest : map place fs ≡ starts (n + width f) fs = cc in
+      let rest : map place fs ≡ starts width (n + width f) fs = cc in
       stored-run fs (sets d (place f) (fieldBytes h f)) (n + width f) rest ws
       ∙ rw at (sym (sets-append d (fieldBytes h f) (run h fs) n ∙ rw w))
 
@@ -101,11 +102,11 @@ module _ (h : Header) where
   run-append (x ∷ xs) ys = rw (append-assoc, run-append xs ys)
 
   -- fields whose bytes are those of b at their places are b from the first's place on
-  pub run-parts : (b : List ℕ) (fs : List Field) (n : ℕ) → map place fs ≡ starts n fs → All (λ (f : Field). fieldBytes h f ≡ part f b) fs → run h fs ≡ take (size fs) (drop n b)
+  pub run-parts : (b : List ℕ) (fs : List Field) (n : ℕ) → map place fs ≡ starts width n fs → All (λ (f : Field). fieldBytes h f ≡ part f b) fs → run h fs ≡ take (size fs) (drop n b)
   run-parts b [] n p none = refl
   run-parts b (f ∷ fs) n p (e & es) =
       let at : place f ≡ n = cc in
-      let rest : map place fs ≡ starts (n + width f) fs = cc in
+      let rest : map place fs ≡ starts width (n + width f) fs = cc in
       (λ i. e i ++ run-parts b fs (n + width f) rest es i) ∙ rw (at, take-add (width f) (size fs) (drop n b), drop-drop)
 
 -- the block of a header, stored at the front

@@ -76,7 +76,7 @@ fn write_origin(h: Header, dst: &mut [u8])
     let guid = h.guid;
     let system_identifier = h.system_identifier;
     let generating_software = h.generating_software;
-    store::set_bytes(dst, 0, b"LASF");
+    store::set_bytes(dst, 0, &header::LASF);
     store::set_u16(dst, 4, h.file_source_id);
     store::set_u16(dst, 6, h.global_encoding);
     set_16(dst, 8, guid);

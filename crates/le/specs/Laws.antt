@@ -6,7 +6,7 @@ use native.Mathlib.Nat.{zero-add, suc-add, pow-succ', mul-assoc, add-assoc, add-
 use native.Mathlib.Numerals.{one-add}
 use native.Mathlib.Omega.{arith}
 use lib.ListN.{getD, take, drop, length, length-drop, drop-of-length-le}
-use lib.Seq.{drop-drop, getD-drop, getD-take, take-add, take-take, take-at, drop-at}
+use lib.Seq.{drop-cons, drop-drop, getD-drop, getD-take, take-add, take-take, take-at, drop-at}
 use Rattle.le.specs.Le.{le, num, bytes, bytesFrom, Bytes}
 
 -- the bytes of a number are those of its low part and of its high part
@@ -25,6 +25,14 @@ num-two w s at = le-add w w (drop at s) ∙ rw drop-drop
 pub num-one : (s : List ℕ) (at : ℕ) → num 1 at s ≡ getD s at 0
 unfolding num le
 num-one s at = simp (getD-drop, add-zero)
+
+-- and what it is alone
+pub byte-num : (s : List ℕ) (at : ℕ) → at + 1 ≤ length s → num 1 at s ∷ [] ≡ take 1 (drop at s)
+byte-num s at h = let in-s : at < length s = omega arith in rw (num-one, drop-cons s at 0)
+
+pub num-byte : (s : List ℕ) (at x : ℕ) → take 1 (drop at s) ≡ x ∷ [] → num 1 at s ≡ x
+unfolding num le
+num-byte s at x e = omega (arith, sym (getD-take 1 (drop at s) 0 0 (omega arith)) ∙ ap (λ (l : List ℕ). getD l 0 0) e)
 
 -- a part of bytes is bytes
 pub bytes-take : (n : ℕ) (s : List ℕ) → Bytes s → Bytes (take n s)

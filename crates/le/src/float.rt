@@ -29,12 +29,20 @@ pub fn f32_of(n: u32) -> F32
     }
 }
 
-// The pattern of a float: what `f32_of` was given, whatever it was.
+// The pattern of a float: what `f32_of` was given, whatever it was. A NaN with no NaN's pattern beside it is a quiet one.
 pub fn f32_bits(x: F32) -> u32
     ensures { λ r. ⌜ r ≡ f32BitsOf x ⌝ }
 {
     let v = x.value;
-    if v != v { x.nan } else { f32::to_bits(v) }
+    if v != v {
+        if x.nan % 2147483648 > 2139095040 {
+            x.nan
+        } else {
+            2143289344
+        }
+    } else {
+        f32::to_bits(v)
+    }
 }
 
 pub fn f64_of(n: u64) -> F64
@@ -57,5 +65,13 @@ pub fn f64_bits(x: F64) -> u64
     ensures { λ r. ⌜ r ≡ f64BitsOf x ⌝ }
 {
     let v = x.value;
-    if v != v { x.nan } else { f64::to_bits(v) }
+    if v != v {
+        if x.nan % 9223372036854775808 > 9218868437227405312 {
+            x.nan
+        } else {
+            9221120237041090560
+        }
+    } else {
+        f64::to_bits(v)
+    }
 }

@@ -3,14 +3,13 @@ use mathlib.Core.Path.{_≡_, refl, ap, sym, _∙_}
 use mathlib.Core.List.{List, _++_}
 use Prim.Native.Nat.{ℕ, _+_, _-_, _≤_, _<_}
 use native.Mathlib.Omega.{arith}
-use native.Mathlib.Nat.{zero-add}
 use lib.ListN.{length, take, drop, length-append}
-use lib.Seq.{sets, length-sets}
+use lib.Seq.{sets}
 use Rattle.refusal.specs.declared.Refusal.the-variants.{NoRoom}
 use Rattle.lent.specs.declared.Wrote.{Wrote}
 use Rattle.lent.specs.declared.Wrote.the-variants.{Bytes, Refused}
 use Rattle.lent.specs.Front.{frontOf}
-use Rattle.lent.specs.Laws.{front, no-front, tail, whole, sets-append}
+use Rattle.lent.specs.Laws.{front, no-front, whole, then-tail}
 
 -- where there is no room
 pub short : (h t d : List ℕ) → length d < length h + length t → (Refused (NoRoom (length h + length t)), d) ≡ frontOf (h ++ t) d
@@ -21,8 +20,5 @@ pub both : (d h t e ys : List ℕ) (r r′ : Wrote) → length h + length t ≤ 
 both d h t e ys r r′ l p q =
     let lh : length h ≤ length d = omega arith in
     let e-is : e ≡ sets d 0 h = ap (λ (x : Wrote × List ℕ). x .1) (p ∙ front h d lh) ∙ sym (whole d h (length h) refl lh) in
-    let len : length e ≡ length d = ap length e-is ∙ length-sets d 0 h in
     let n : length (h ++ t) ≡ length h + length t = length-append h t in
-    let all : sets e (length h) t ≡ (h ++ t) ++ drop (length h + length t) d =
-    ap (λ (x : List ℕ). sets x (length h) t) e-is ∙ ap (λ (k : ℕ). sets (sets d 0 h) k t) (sym (zero-add (length h))) ∙ sym (sets-append d h t 0) ∙ whole d (h ++ t) (length h + length t) n l in
-    rw (tail e t ys (length h) r′ (omega arith) q, all) (sym (front (h ++ t) d (omega arith) ∙ rw n))
+    rw (then-tail d h t e ys (length h) r′ refl l e-is q) (sym (front (h ++ t) d (omega arith) ∙ rw n))

@@ -55,6 +55,14 @@ less-one (suc k) m h =
 pub whole : (d bs : List ℕ) (n : ℕ) → length bs ≡ n → n ≤ length d → sets d 0 bs ≡ bs ++ drop n d
 whole d bs n e h = rw (← e) (sets-eq bs d 0 (omega arith) ∙ rw zero-add)
 
+-- a piece written from the start on, and then another into the tail that is lent after it
+pub then-tail : (d b p e ys : List ℕ) (n : ℕ) (r : Wrote) → length b ≡ n → n + length p ≤ length d → e ≡ sets d 0 b → (r, ys) ≡ frontOf p (take (length e - n) (drop n e)) → take n e ++ (ys ++ drop (length e - n) (drop n e)) ≡ (b ++ p) ++ drop (n + length p) d
+then-tail d b p e ys n r l h s q =
+    let same : length e ≡ length d = ap length s ∙ length-sets d 0 b in
+    let all : length (b ++ p) ≡ n + length p = length-append b p ∙ rw l in
+    tail e p ys n r (omega arith) q
+    ∙ rw (s, ← l, ← zero-add (length b), ← sets-append d b p 0, zero-add) (whole d (b ++ p) (length b + length p) (rw l all) (rw l h))
+
 -- a piece and what is still to come fit, so the piece fits
 pub room : (d bs rest : List ℕ) (at : ℕ) → at + length (bs ++ rest) ≤ length d → at + length bs ≤ length d
 room d bs rest at h = omega (arith, length-append bs rest)

@@ -10,7 +10,9 @@ use format::FormatLen;
 use format::NewFormat;
 use outline::Outline;
 use refusal::Refusal;
+use vlr::Extent;
 use vlr::RecordLength;
+use vlr::StatedLength;
 
 // Accepted or refused, with the number of records found whole before the answer; a refusal has its record number beside it.
 pub enum Checked {
@@ -85,16 +87,13 @@ pub fn check_records(rest: &[u8], extended: bool, allowance: u64, found: u32, co
 fn measure(rest: &[u8], extended: bool) -> Measured
     ensures { λ r. ⌜ r ≡ measuredOf extended (now (rest .entry)) ⌝ }
 {
-    let head = vlr::head_size(extended);
-    if rest.len() < head {
+    let StatedLength::Is(stated) = vlr::stated(rest, extended) else {
         return Measured::Refused(too_far(no_length(extended)));
+    };
+    match vlr::measure(rest, extended) {
+        Extent::Bytes(n) => Measured::Bytes(n),
+        Extent::Refused(_) => Measured::Refused(too_far(stated)),
     }
-    let stated = vlr::stated(rest, extended);
-    let length = stated.to_u64();
-    if ((rest.len() - head) as u64) < length {
-        return Measured::Refused(too_far(stated));
-    }
-    Measured::Bytes(head + length as usize)
 }
 
 // 11 or 13 with the length field.

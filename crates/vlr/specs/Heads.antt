@@ -2,45 +2,45 @@
 use Prim.Native.Nat.{ℕ, _+_, _^_, _≤_, _<_}
 use mathlib.Core.Path.{_≡_, refl, ap, _∙_}
 use mathlib.Core.Bool.{Bool, true, false}
-use mathlib.Core.List.{List, [], _∷_, _++_, map, append-assoc}
+use mathlib.Core.List.{List, _++_, append-assoc}
 use native.Mathlib.Omega.{arith}
-use lib.ListN.{length, getD, take, drop, length-append, length-drop}
+use lib.ListN.{length, take, drop, length-append, length-drop}
 use lib.Seq.{take-add, length-take-le, take-append-seam, drop-append-seam}
 use Rattle.le.specs.Le.{Bytes as IsBytes}
-use Rattle.le.specs.Laws.{length-bytes, num-lt, bytes-num, num-bytes}
+use Rattle.le.specs.Laws.{num-lt, bytes-num, num-bytes}
 use Rattle.vlr.specs.declared.Extent.the-variants.{Bytes}
 use Rattle.vlr.specs.declared.RecordLength.{RecordLength}
 use Rattle.vlr.specs.declared.RecordLength.the-variants as kind
 use Rattle.vlr.specs.declared.Vlr.{Vlr}
-use Rattle.vlr.specs.Cut.{joined, part, joined-parts, parts-joined}
+use Rattle.fields.specs.Table.{part, All, none, _&_}
+use Rattle.fields.specs.Laws.{every, joined-parts, parts-joined}
 use Rattle.vlr.specs.Layout.{Field, Reserved, UserId, RecordId, LengthAfterHeader, Description, fields, width, place, headSize}
 use Rattle.vlr.specs.Places.{places-follow, head-sizes, description-last}
 use Rattle.vlr.specs.Vlr.{dataLength, isExtended, isEvlr, bytesIn, lengthOf, vlrOf, readOf, dataOf, lengthBytes, fieldBytes, headBytes, Typed}
-use Rattle.vlr.specs.Laws.{Whole, length-head, read-whole}
+use Rattle.vlr.specs.Laws.{Whole, head-wide, length-head, read-whole}
 
 pub kind-read : (extended : Bool) (s : List ℕ) → isExtended (lengthOf extended s) ≡ extended
 kind-read true s = refl
 kind-read false s = refl
 
 module _ (s : List ℕ) (b : IsBytes s) where
-  length-back : (extended : Bool) → headSize extended ≤ length s → lengthBytes (lengthOf extended s) ≡ bytesIn extended LengthAfterHeader s
-  length-back true h = bytes-num 8 20 s b (omega arith)
-  length-back false h = bytes-num 2 20 s b (omega arith)
+  length-back : (extended : Bool) → 20 + width extended LengthAfterHeader ≤ length s → lengthBytes (lengthOf extended s) ≡ bytesIn extended LengthAfterHeader s
+  length-back true h = bytes-num 8 20 s b h
+  length-back false h = bytes-num 2 20 s b h
 
   -- each field of a head that was read is written as it stood
-  field-back : (extended : Bool) → headSize extended ≤ length s → (f : Field) → fieldBytes (vlrOf extended s) f ≡ bytesIn extended f s
+  field-back : (extended : Bool) (f : Field) → place extended f + width extended f ≤ length s → fieldBytes (vlrOf extended s) f ≡ bytesIn extended f s
   unfolding vlrOf
-  field-back extended h Reserved = bytes-num 2 0 s b (omega (arith, head-sizes extended))
-  field-back extended h UserId = refl
-  field-back extended h RecordId = bytes-num 2 18 s b (omega (arith, head-sizes extended))
-  field-back extended h LengthAfterHeader = length-back extended h
-  field-back extended h Description = refl
+  field-back extended Reserved h = bytes-num 2 0 s b h
+  field-back extended UserId h = refl
+  field-back extended RecordId h = bytes-num 2 18 s b h
+  field-back extended LengthAfterHeader h = length-back extended h
+  field-back extended Description h = refl
 
   pub head-back : (extended : Bool) → headSize extended ≤ length s → headBytes (vlrOf extended s) ≡ take (headSize extended) s
   unfolding headBytes
   head-back extended h =
-      (λ i. joined (λ f. field-back extended h f i) fields)
-      ∙ joined-parts (width extended) (place extended) fields 0 s (places-follow extended)
+      joined-parts (width extended) _ (place extended) s fields 0 (places-follow extended) (omega (arith, head-sizes extended)) (every (field-back extended) fields)
       ∙ rw head-sizes
 
 -- head and data of a whole record are its bytes
@@ -71,19 +71,20 @@ length-again (kind.Evlr n) t h e = ap kind.Evlr (num-bytes 8 20 t n h e)
 pub head-again : (v : Vlr) (rest : List ℕ) → Typed v → vlrOf (isEvlr v) (headBytes v ++ rest) ≡ v
 unfolding vlrOf headBytes
 head-again v rest w =
-    let n = v .«record_length_after_header» in
-    let e = isExtended n in
+    let e = isEvlr v in
     let t = headBytes v ++ rest in
-    let widths : map (λ f. length (fieldBytes v f)) fields ≡ map (width e) fields = λ i. 2 ∷ w .user-id i ∷ 2 ∷ length-bytes (width e LengthAfterHeader) (dataLength n) i ∷ w .description i ∷ [] in
-    let parts : map (λ f. bytesIn e f t) fields ≡ map (fieldBytes v) fields = parts-joined (width e) (place e) (fieldBytes v) fields [] rest (places-follow e) widths in
-    let at : (f : ℕ) → getD (map (λ f. bytesIn e f t) fields) f [] ≡ getD (map (fieldBytes v) fields) f [] = λ f. ap (λ (l : List (List ℕ)). getD l f []) parts in
-    λ i. record {
-      reserved = num-bytes 2 0 t (v .reserved) (w .reserved) (at 0) i;
-      «user_id» = at 1 i;
-      «record_id» = num-bytes 2 18 t (v .«record_id») (w .record-id) (at 2) i;
-      «record_length_after_header» = length-again n t (w .stated) (at 3) i;
-      description = at 4 i;
-    }
+    fields-again (parts-joined (width e) (fieldBytes v) (place e) t fields 0 rest (places-follow e) (head-wide v (w .user-id) (w .description)) refl)
+  where
+    fields-again : All (λ (f : Field). bytesIn (isEvlr v) f (headBytes v ++ rest) ≡ fieldBytes v f) fields → vlrOf (isEvlr v) (headBytes v ++ rest) ≡ v
+    fields-again (reserved & id & record-id & stated & text & none) =
+        let t = headBytes v ++ rest in
+        λ i. record {
+          reserved = num-bytes 2 0 t (v .reserved) (w .reserved) reserved i;
+          «user_id» = id i;
+          «record_id» = num-bytes 2 18 t (v .«record_id») (w .record-id) record-id i;
+          «record_length_after_header» = length-again (v .«record_length_after_header») t (w .stated) stated i;
+          description = text i;
+        }
 
 -- what is read of a head, as many bytes as it states and whatever follows
 pub again : (extended : Bool) (v : Vlr) (content rest s : List ℕ) → isEvlr v ≡ extended → Typed v → length content ≡ dataLength (v .«record_length_after_header») → s ≡ (headBytes v ++ content) ++ rest

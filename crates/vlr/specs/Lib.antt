@@ -1,4 +1,3 @@
-pub mod Cut
 pub mod Layout
 pub mod Places
 pub mod Vlr

@@ -2,13 +2,12 @@
 use Prim.Native.Nat.{_+_, _≤_}
 use mathlib.Core.Path.{_≡_, refl}
 use mathlib.Core.Bool.{Bool, true, false}
-use mathlib.Core.List.{map}
 use native.Mathlib.Omega.{arith}
-use Rattle.vlr.specs.Cut.{starts, total}
+use Rattle.fields.specs.Table.{Follow, total}
 use Rattle.vlr.specs.Layout.{Description, fields, width, place, headSize}
 
 -- the fields of a head follow each other from 0 on, without gap or overlap
-pub places-follow : (extended : Bool) → map (place extended) fields ≡ starts (width extended) 0 fields
+pub places-follow : (extended : Bool) → Follow (width extended) (place extended) 0 fields
 places-follow true = refl
 places-follow false = refl
 
@@ -21,6 +20,10 @@ head-sizes false = refl
 pub description-last : (extended : Bool) → place extended Description + width extended Description ≡ headSize extended
 description-last true = refl
 description-last false = refl
+
+pub head-least : (extended : Bool) → 54 ≤ headSize extended
+head-least true = omega arith
+head-least false = omega arith
 
 pub head-at-most : (extended : Bool) → headSize extended ≤ 60
 head-at-most true = omega arith

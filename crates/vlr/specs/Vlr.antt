@@ -14,10 +14,12 @@ use Rattle.lent.specs.Front.{frontOf}
 use Rattle.vlr.specs.declared.RecordLength.{RecordLength}
 use Rattle.vlr.specs.declared.RecordLength.the-variants as kind
 use Rattle.vlr.specs.declared.Vlr.{Vlr}
+use Rattle.vlr.specs.declared.StatedLength.{StatedLength}
+use Rattle.vlr.specs.declared.StatedLength.the-variants as stated
 use Rattle.vlr.specs.declared.Extent.{Extent}
 use Rattle.vlr.specs.declared.Extent.the-variants as extent
 use Rattle.vlr.specs.declared.VlrRead.{VlrRead}
-use Rattle.vlr.specs.Cut.{joined, part}
+use Rattle.fields.specs.Table.{joined, part}
 use Rattle.vlr.specs.Layout.{Field, Reserved, UserId, RecordId, LengthAfterHeader, Description, fields, width, place, headSize}
 
 -- how many bytes of data a length states; whether it is an EVLR's, and whether a record is one
@@ -43,6 +45,10 @@ bytesIn extended f s = part (width extended f) (place extended f) s
 abbrev pub lengthOf : Bool → List ℕ → RecordLength
 lengthOf false s = kind.Vlr (numberIn false LengthAfterHeader s)
 lengthOf true s = kind.Evlr (numberIn true LengthAfterHeader s)
+
+-- the same, or refusal 1 with the head's size where the head is not all there
+unfoldable pub statedOf : Bool → List ℕ → StatedLength
+statedOf extended s = cond (ltb (length s) (headSize extended)) (stated.Refused (Short (headSize extended))) (stated.Is (lengthOf extended s))
 
 -- the record whose head is at the start of s
 unfoldable pub vlrOf : Bool → List ℕ → Vlr
@@ -108,8 +114,8 @@ headBytes v = joined (fieldBytes v) fields
 -- refusal 24 where the data has not the stated length; else the head and the data go to the front of d, or refusal 22
 unfoldable pub writtenOf : Vlr → List ℕ → List ℕ → Wrote × List ℕ
 writtenOf v content d =
-    let stated = dataLength (v .«record_length_after_header») in
-    cond (eqb (length content) stated) (frontOf (headBytes v ++ content) d) (wrote.Refused (VlrDataLength stated), d)
+    let wanted = dataLength (v .«record_length_after_header») in
+    cond (eqb (length content) wanted) (frontOf (headBytes v ++ content) d) (wrote.Refused (VlrDataLength wanted), d)
 
 -- what the Rust's types say of a record: numbers in their widths, arrays of their lengths
 pub record Typed (v : Vlr) : Type 0 where

@@ -8,7 +8,7 @@ ghost use Rattle.vlr.specs.declared.RecordLength.the-variants as kind;
 ghost use Rattle.vlr.specs.declared.Extent.the-variants as extent;
 ghost use Rattle.vlr.specs.Layout.{Description, place, headSize};
 ghost use Rattle.refusal.specs.Table.{wantedOf};
-ghost use Rattle.vlr.specs.Vlr.{dataLength, lengthOf, vlrOf, noVlr, extentOf, readOf, dataOf};
+ghost use Rattle.vlr.specs.Vlr.{dataLength, lengthOf, statedOf, vlrOf, noVlr, extentOf, readOf, dataOf};
 use refusal::Refusal;
 
 // The length of the data: a u16 in a VLR, a u64 in an EVLR.
@@ -23,6 +23,12 @@ pub struct Vlr {
     pub record_id: u16,
     pub record_length_after_header: RecordLength,
     pub description: [u8; 32],
+}
+
+// The length that a head states, or refusal 1 where the head is not all there.
+pub enum StatedLength {
+    Is(RecordLength),
+    Refused(Refusal),
 }
 
 // How many bytes a record takes, head and data, or why it can't be read.
@@ -107,11 +113,11 @@ pub fn measure(s: &[u8], extended: bool) -> Extent
     if s.len() < head {
         return short(head as u64);
     }
-    let length = stated(s, extended).to_u64();
-    if ((s.len() - head) as u64) < length {
-        return short(sum(head as u64, length));
+    let content = length_field(s, extended).to_u64();
+    if ((s.len() - head) as u64) < content {
+        return short(sum(head as u64, content));
     }
-    Extent::Bytes(head + length as usize)
+    Extent::Bytes(head + content as usize)
 }
 
 // Refusal 1, with the bytes wanted in all.
@@ -146,8 +152,19 @@ fn sum(a: u64, b: u64) -> u64
     }
 }
 
-// The length that the head at the start of `s` states; a byte past the end counts as 0.
-pub fn stated(s: &[u8], extended: bool) -> RecordLength
+// The length that the head at the start of `s` states; refuses with 1 and the head's size where the head is not all there.
+pub fn stated(s: &[u8], extended: bool) -> StatedLength
+    ensures { λ r. ⌜ r ≡ statedOf extended (now (s .entry)) ⌝ }
+{
+    let head = head_size(extended);
+    if s.len() < head {
+        return StatedLength::Refused(Refusal::Short(head as u64));
+    }
+    StatedLength::Is(length_field(s, extended))
+}
+
+// The length field of a head; a byte past the end counts as 0.
+fn length_field(s: &[u8], extended: bool) -> RecordLength
     ensures { λ r. ⌜ r ≡ lengthOf extended (now (s .entry)) ⌝ }
 {
     if extended {
@@ -162,7 +179,7 @@ fn head(s: &[u8], extended: bool) -> Vlr
     requires { ⌜ headSize extended ≤ length (now s) ⌝ }
     ensures { λ r. ⌜ r ≡ vlrOf extended (now (s .entry)) ⌝ }
 {
-    let record_length_after_header = stated(s, extended);
+    let record_length_after_header = length_field(s, extended);
     let at = description_place(extended);
     Vlr {
         reserved: le::u16_at(s, 0),

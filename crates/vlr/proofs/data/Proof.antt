@@ -6,7 +6,7 @@ use mathlib.Core.List.{List, []}
 use borrow.Author.Needs.{needs}
 use native.Mathlib.Omega.{arith}
 use Rattle.vlr.specs.declared.Extent.{Extent}
-use Rattle.vlr.specs.Cut.{part}
+use Rattle.fields.specs.Table.{part}
 use Rattle.vlr.specs.Layout.{headSize}
 use Rattle.vlr.specs.Vlr.{dataLength, lengthOf, extentOf, whenWhole, dataOf}
 use Rattle.vlr.specs.Laws.{Whole, accepted}

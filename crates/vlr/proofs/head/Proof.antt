@@ -28,7 +28,7 @@ returns c =
       reserved = c .before .before .before .u16-at .ensures i;
       «user_id» = id i;
       «record_id» = c .before .u16-at2 .ensures i;
-      «record_length_after_header» = stated .stated .ensures i;
+      «record_length_after_header» = stated .length-field .ensures i;
       description = text i;
     }
 

@@ -47,14 +47,14 @@ returns-2 c =
     let h = b .before .before in
     let a = h .before .before .before .args in
     c .short2 .ensures ∙ ap (λ (n : ℕ). Refused (Short n)) (c .before .sum .ensures)
-    ∙ cut-off (a .extended) (a .s .now) (h .before .head-size .ensures) (b .before .stated .ensures) (b .to-u64 .ensures) (h .if1 .left) (omega arith)
+    ∙ cut-off (a .extended) (a .s .now) (h .before .head-size .ensures) (b .before .length-field .ensures) (b .to-u64 .ensures) (h .if1 .left) (omega arith)
 
 returns-3 : tie.Need-returns-3
 returns-3 c =
     let b = c .before in
     let h = b .before .before in
     let a = h .before .before .before .args in
-    all-there (a .extended) (a .s .now) (h .before .head-size .ensures) (b .before .stated .ensures) (b .to-u64 .ensures) (h .if1 .left) (omega arith)
+    all-there (a .extended) (a .s .now) (h .before .head-size .ensures) (b .before .length-field .ensures) (b .to-u64 .ensures) (h .if1 .left) (omega arith)
 
 pub measure-spec : {M : Type 1} → statement M
 measure-spec =

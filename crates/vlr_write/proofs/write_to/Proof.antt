@@ -1,66 +1,67 @@
 -- Long since each refusal and the write itself return at a place of their own; what the calls before them told is said once.
-use Prim.Native.Nat.{_+_}
+use Prim.Native.Nat.{ℕ, _+_, _≤_}
 use mathlib.Core.Path.{_≡_, ap, sym, _∙_}
-use mathlib.Core.List.{_++_}
+use mathlib.Core.List.{List, _++_}
 use borrow.Author.Needs.{needs}
-use borrow.Author.Tests.{eq-eqb, ne-eqb}
 use native.Mathlib.Omega.{arith}
-use lib.ListN.{length, length-append}
-use Rattle.vlr.specs.Cut.{length-joined}
-use Rattle.vlr.specs.Layout.{fields, headSize}
+use lib.ListN.{length, drop, length-append}
+use Rattle.refusal.specs.declared.Refusal.the-variants.{NoRoom}
+use Rattle.lent.specs.declared.Wrote.the-variants.{Bytes, Refused}
+use Rattle.lent.specs.Laws.{front, no-front, then-tail}
+use Rattle.lent.specs.Front.{frontOf}
+use Rattle.vlr.specs.Layout.{headSize}
 use Rattle.vlr.specs.Places.{head-at-most}
-use Rattle.vlr.specs.Vlr.{fieldBytes, headBytes, writtenOf}
-use Rattle.vlr.specs.Laws.{length-head}
-use Rattle.vlr_write.proofs.Pieces.{followed, in-front, no-room}
+use Rattle.vlr.specs.Vlr.{headBytes, writtenOf}
+use Rattle.vlr.specs.Laws.{length-head, stored-head, stated-length, other-length}
 use Rattle.vlr_write.proofs.write_to.Statement.{statement}
 use Rattle.vlr_write.proofs.write_to.Tie as tie
 
-head : (c : tie.After-head-size) → c .head-size .result ≡ length (headBytes (c .before .before .before .before .before .before .args .vlr))
-head c =
-    let v = c .before .before .before .before .before .before .args .vlr in
-    let u : length (v .«user_id») ≡ 16 = search needs in
-    let d : length (v .description) ≡ 32 = search needs in
-    c .head-size .ensures ∙ ap headSize (c .before .is-extended .ensures) ∙ sym (length-head v u d)
-
 returns : tie.Need-returns
-unfolding writtenOf
 returns c =
     let t = c .before in
-    rw (← (t .to-u64 .ensures), ne-eqb (length (t .before .before .before .args .«data» .now)) (t .to-u64 .result) (λ e. omega arith))
+    let a = t .before .before .before .args in
+    rw (t .to-u64 .ensures) (sym (other-length (a .vlr) (a .«data» .now) (a .dst .now) (λ e. omega arith)))
 
-size : (c : tie.After-head-size) → c .head-size .result + length (c .before .before .before .before .before .before .args .«data» .now) ≡ length (headBytes (c .before .before .before .before .before .before .args .vlr) ++ c .before .before .before .before .before .before .args .«data» .now)
-size c = rw (head c, length-append)
+-- past the first test the data has the stated length
+module _ (h : tie.After-head-size) where
+  abbrev begun : tie.Start
+  begun = h .before .before .before .before .before .before
+
+  abbrev written : List ℕ
+  written = headBytes (begun .args .vlr) ++ begun .args .«data» .now
+
+  same : writtenOf (begun .args .vlr) (begun .args .«data» .now) (begun .args .dst .now) ≡ frontOf written (begun .args .dst .now)
+  same = stated-length (begun .args .vlr) (begun .args .«data» .now) (begun .args .dst .now) (omega arith)
+
+  head : h .head-size .result ≡ length (headBytes (begun .args .vlr))
+  head =
+      let user : length (begun .args .vlr .«user_id») ≡ 16 = search needs in
+      let text : length (begun .args .vlr .description) ≡ 32 = search needs in
+      h .head-size .ensures ∙ ap headSize (h .before .is-extended .ensures) ∙ sym (length-head (begun .args .vlr) user text)
+
+  size : h .head-size .result + length (begun .args .«data» .now) ≡ length written
+  size = omega (arith, head, length-append (headBytes (begun .args .vlr)) (begun .args .«data» .now))
 
 returns-2 : tie.Need-returns-2
-unfolding writtenOf
 returns-2 c =
     let h = c .before in
-    let t = h .before .before in
-    let a = t .before .before .before .before .args in
-    rw (← (t .before .to-u64 .ensures), eq-eqb (length (a .«data» .now)) (t .before .to-u64 .result) (omega arith)) (no-room (headBytes (a .vlr) ++ a .«data» .now) (a .dst .now) (size h) (c .if2 .taken))
-
-put-head-requires : tie.Need-put-head-requires
-unfolding headBytes
-put-head-requires c κs =
-    let h = c .before .before in
-    let v = h .before .before .before .before .before .before .args .vlr in
-    rw (← (length-joined (fieldBytes v) fields)) (omega (arith, head h))
+    (λ i. (Refused (NoRoom (size h i)), begun h .args .dst .now)) ∙ sym (same h ∙ no-front (written h) (begun h .args .dst .now) (omega (arith, size h)))
 
 returns-3 : tie.Need-returns-3
-unfolding writtenOf
 returns-3 c =
-    let w = c .before .before in
-    let p = w .before .before .before .before in
-    let h = p .before .before .before in
-    let t = h .before .before in
-    let a = t .before .before .before .before .args in
-    rw (← (t .before .to-u64 .ensures), eq-eqb (length (a .«data» .now)) (t .before .to-u64 .result) (omega arith))
-    (in-front (headBytes (a .vlr) ++ a .«data» .now) (a .dst .now) (size h) (p .before .before .if2 .left) (followed (p .put-head .ensures) (w .put-at .ensures)))
+    let p = c .before .before in
+    let w = p .before .before .before .before in
+    let h = w .before .before .before in
+    let a = begun h .args in
+    let room : h .head-size .result + length (a .«data» .now) ≤ length (a .dst .now) = omega arith in
+    let left = then-tail (a .dst .now) (headBytes (a .vlr)) (a .«data» .now) (w .write-head .last .1 .0) (p .put .last .0) (h .head-size .result) (p .put .result) (sym (head h)) room (stored-head (a .vlr) (w .write-head .ensures)) (p .put .ensures) in
+    (λ i. (Bytes (size h i), (left ∙ ap (λ (k : ℕ). written h ++ drop k (a .dst .now)) (size h)) i))
+    ∙ sym (same h ∙ front (written h) (a .dst .now) (omega (arith, size h)))
 
 pub write-to-spec : {M : Type 1} → statement M
 write-to-spec =
     tie.close
     (tie.spec
     (λ c κs. search needs) returns (λ c κs. search needs) (λ c κs. search needs)
-    (λ c. omega (arith, head-at-most (c .before .is-extended .result))) returns-2 put-head-requires
-    (λ c κs. omega (arith, head (c .before .before .before .before .before .before))) (λ c. search needs) returns-3)
+    (λ c. omega (arith, head-at-most (c .before .is-extended .result))) returns-2 (λ c κs. search needs)
+    (λ c. search needs) (λ c. search needs) (λ c. search needs) (λ c κs. search needs) (λ c. search needs) returns-3)

@@ -4,7 +4,7 @@ use mathlib.Core.Bool.{Bool, not}
 use lib.Dec.{T}
 use lib.Ieee.{binary64}
 use Rattle.le.specs.Real.{f64BitsOf}
-use Rattle.le.proofs.Nans.{self, nan-written, number-written}
+use Rattle.le.proofs.Nans.{self, nan-written, quiet-written, quiet, number-written}
 use Rattle.le.proofs.float.f64_bits.Statement.{statement}
 use Rattle.le.proofs.float.f64_bits.Tie as tie
 
@@ -13,11 +13,15 @@ float-to-bits-result c = subst (λ (b : Bool). T (not b)) (sym (sym (self (c .be
 
 returns : tie.Need-returns
 unfolding f64BitsOf
-returns c = nan-written binary64 (c .before .args .x .value) (c .before .args .x .nan) (c .if1 .taken)
+returns c = let x = c .before .before .before .args .x in nan-written binary64 (x .value) (x .nan) (c .before .before .if1 .taken) (c .if2 .taken)
 
 returns-2 : tie.Need-returns-2
 unfolding f64BitsOf
-returns-2 c = number-written binary64 (c .before .args .x .value) (c .before .args .x .nan) (c .if1 .left)
+returns-2 c = let x = c .before .before .before .args .x in sym (quiet .1) ∙ quiet-written binary64 (x .value) (x .nan) (c .before .before .if1 .taken) (c .if2 .left)
+
+returns-3 : tie.Need-returns-3
+unfolding f64BitsOf
+returns-3 c = let x = c .before .args .x in number-written binary64 (x .value) (x .nan) (c .if1 .left)
 
 pub f64-bits-spec : {M : Type 1} → statement M
-f64-bits-spec = tie.close (tie.spec float-to-bits-result returns returns-2)
+f64-bits-spec = tie.close (tie.spec float-to-bits-result returns returns-2 returns-3)

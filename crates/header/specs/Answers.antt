@@ -1,0 +1,99 @@
+-- Laws of what the reader answers, for whoever asks it: what is read of an accepted header, and which refusals there are.
+use Prim.Native.Nat.{ℕ, _-_, _≤_, _<_}
+use mathlib.Core.Path.{_≡_, refl, sym, ap, subst, _∙_}
+use mathlib.Core.Bool.{Bool, true, false, cond, _&&_}
+use mathlib.Core.List.{List}
+use native.Mathlib.Omega.{arith}
+use borrow.Author.Tests.{le-ltb, ltb-true, ltb-false}
+use lib.Dec.{eqb, ltb}
+use lib.ListN.{length, take, drop}
+use Rattle.le.specs.Le.{Bytes}
+use Rattle.le.specs.Laws.{num-take, num-lt, bytes-take}
+use Rattle.refusal.specs.declared.Refusal.{Refusal}
+use Rattle.refusal.specs.declared.Refusal.the-variants.{Short, Signature, Version as VersionRefusal}
+use Rattle.header.specs.declared.Version.{Version}
+use Rattle.header.specs.declared.StandardSize.the-variants.{Is, Refused as Unknown}
+use Rattle.header.specs.declared.HeaderAnswer.{HeaderAnswer}
+use Rattle.header.specs.declared.HeaderAnswer.the-variants.{Whole, Refused}
+use Rattle.header.specs.declared.HeaderRead.{HeaderRead}
+use Rattle.header.specs.Layout.{FileSignature, HeaderSize, PointDataRecordLength, place}
+use Rattle.header.specs.Header.{part, number, headerOf, defaultHeader, lasf}
+use Rattle.header.specs.Judged.{eqList, standardOf, versionOf, paddedTo, sized, versioned, judged, readBy, readOf, paddingBy, paddingOf}
+use Rattle.header.specs.Laws.{within}
+
+-- the reader answers as rule 1 judges
+pub answer-is : (s : List ℕ) → readOf s .answer ≡ judged s
+unfolding readOf readBy
+answer-is s = go (judged s)
+  where
+    go : (a : HeaderAnswer) → readBy a s .answer ≡ a
+    go (Whole n e) = refl
+    go (Refused r) = refl
+
+-- what is read of a header that is accepted: that of its block, and the bytes between as padding
+module _ (s : List ℕ) {n e : ℕ} (p : judged s ≡ Whole n e) where
+  pub read-whole : readOf s ≡ record { answer = Whole n e; header = headerOf (take n s) }
+  unfolding readOf readBy
+  read-whole = ap (λ (a : HeaderAnswer). readBy a s) p
+
+  pub padding-whole : paddingOf s ≡ take (e - n) (drop n s)
+  unfolding paddingOf paddingBy
+  padding-whole = ap (λ (a : HeaderAnswer). paddingBy a s) p
+
+  -- its version and its header-size field are those of the bytes
+  pub version-read : readOf s .header .version ≡ versionOf s
+  unfolding headerOf versionOf
+  version-read = ap (λ (r : HeaderRead). r .header .version) read-whole ∙ λ i. record { major = num-take 1 24 s n (omega (arith, within s p .0)) i; minor = num-take 1 25 s n (omega (arith, within s p .0)) i }
+
+  pub size-read : readOf s .header .«header_size» ≡ number HeaderSize s
+  unfolding headerOf
+  size-read = ap (λ (r : HeaderRead). r .header .«header_size») read-whole ∙ num-take 2 94 s n (omega (arith, within s p .0))
+
+-- a record length that is read is a number of two bytes, the default one too
+pub record-length-fits : (s : List ℕ) → Bytes s → readOf s .header .«point_data_record_length» ≤ 65535
+unfolding readOf readBy headerOf defaultHeader
+record-length-fits s bytes = go (judged s)
+  where
+    go : (a : HeaderAnswer) → readBy a s .header .«point_data_record_length» ≤ 65535
+    go (Whole n e) = omega (arith, num-lt 2 (take n s) (place PointDataRecordLength) (bytes-take n s bytes))
+    go (Refused r) = omega arith
+
+-- where the padding ends
+pub padded-field : (n field : ℕ) → n ≤ field → paddedTo n field ≡ field
+unfolding paddedTo
+padded-field n field h = go (ltb n field) refl
+  where
+    go : (b : Bool) → ltb n field ≡ b → cond b field n ≡ field
+    go true e = refl
+    go false e = omega (arith, ltb-false n field e)
+
+pub padded-most : (n field : ℕ) → field ≤ paddedTo n field
+unfolding paddedTo
+padded-most n field = go (ltb n field) refl
+  where
+    go : (b : Bool) → ltb n field ≡ b → field ≤ cond b field n
+    go true e = omega arith
+    go false e = omega (arith, ltb-false n field e)
+
+-- a header is refused with 1, 2 or 3, and in no other way
+module _ (P : Refusal → Type 0) (short : (n : ℕ) → P (Short n)) (signature : (n : ℕ) → P (Signature n)) (version : (n : ℕ) → P (VersionRefusal n)) where
+  abbrev Only : HeaderAnswer → Type 0
+  Only (Whole n e) = Unit
+  Only (Refused r) = P r
+
+  either : (b : Bool) (x y : HeaderAnswer) → Only x → Only y → Only (cond b x y)
+  either true x y p q = p
+  either false x y p q = q
+
+  only : (s : List ℕ) → Only (judged s)
+  unfolding judged versioned standardOf sized
+  only s =
+      either (ltb (length s) 4) _ _ (short 4)
+      (either (eqList (part FileSignature s) lasf) _ _ (either (ltb (length s) 26) _ _ (short 26) (size (eqb (versionOf s .major) 1 && ltb (versionOf s .minor) 5) _ _)) (signature _))
+    where
+      size : (b : Bool) (n r : ℕ) → Only (sized (cond b (Is n) (Unknown (VersionRefusal r))) s)
+      size true n r = either (ltb (length s) n) _ _ (short n) (either (ltb (length s) (number HeaderSize s)) _ _ (short _) tt)
+      size false n r = version r
+
+  pub refused-only : (s : List ℕ) {r : Refusal} → judged s ≡ Refused r → P r
+  refused-only s p = subst Only p (only s)
