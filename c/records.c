@@ -80,7 +80,9 @@ static void test_extended_point(void) {
     las_point_read(dst, 68, format, row, read);
     CHECK(told(row, LAS_REFUSED_SHORT, 69, 0) && left_numbers(read, LAS_POINT_NUMBERS));
     las_point_extra(dst, 68, format, span);
-    CHECK(spans(span, 67, 0));
+    CHECK(spans(span, 0, 0));
+    las_point_extra(dst, sizeof dst, LAS_FORMAT_TIME, span);
+    CHECK(spans(span, 0, 0));
 }
 
 /* A record of format 3: what it lacks is not written, what the point lacks is zeros, and its flags have to fit. */
@@ -153,8 +155,11 @@ static void test_vlr(bool extended, size_t head) {
     CHECK(spans(span, head, 4));
     las_vlr_measure(dst, sizeof dst, extended, row);
     CHECK(told(row, LAS_OK, head + 4, 0));
-    CHECK(las_vlr_head_size(extended) == head && las_vlr_stated(dst, sizeof dst, extended) == 4);
-    CHECK(las_vlr_stated(dst, 20, extended) == 0);
+    CHECK(las_vlr_head_size(extended) == head);
+    las_vlr_stated(dst, head, extended, row);
+    CHECK(told(row, LAS_OK, 4, 0));
+    las_vlr_stated(dst, head - 1, extended, row);
+    CHECK(told(row, LAS_REFUSED_SHORT, head, 0));
 
     /* one byte short of its data, and of its head */
     fill_numbers(read, LAS_VLR_NUMBERS);
@@ -166,7 +171,9 @@ static void test_vlr(bool extended, size_t head) {
     CHECK(told(row, LAS_REFUSED_SHORT, head, 0));
     CHECK(left_numbers(read, LAS_VLR_NUMBERS) && left_bytes(user, sizeof user) && left_bytes(text, sizeof text));
     las_vlr_data(dst, head + 3, extended, span);
-    CHECK(spans(span, head, 0));
+    CHECK(spans(span, 0, 0));
+    las_vlr_data(dst, 1, extended, span);
+    CHECK(spans(span, 0, 0));
     las_vlr_measure(dst, head + 3, extended, row);
     CHECK(told(row, LAS_REFUSED_SHORT, head + 4, 0));
 
@@ -181,10 +188,16 @@ void test_vlrs(void) {
     test_vlr(false, 54);
     test_vlr(true, 60);
 
-    /* an EVLR's length near 2^64: the bytes wanted are over it */
+    /* a VLR's length of which 16 bits would be that of its data */
     static const uint8_t text[LAS_VLR_DESCRIPTION_BYTES];
     uint8_t evlr[60];
     uint64_t row[3], read[LAS_VLR_NUMBERS];
+    const uint64_t wide[LAS_VLR_NUMBERS] = {0, 0, 65536};
+    fill_bytes(evlr, sizeof evlr);
+    las_vlr_write(false, wide, text, text, nothing, 0, evlr, sizeof evlr, row);
+    CHECK(told(row, LAS_REFUSED_VLR_DATA_LENGTH, 65536, 0) && left_bytes(evlr, sizeof evlr));
+
+    /* an EVLR's length near 2^64: the bytes wanted are over it */
     uint8_t user[LAS_VLR_USER_ID_BYTES], description[LAS_VLR_DESCRIPTION_BYTES];
     fill_numbers(row, 3);
     const uint64_t none[LAS_VLR_NUMBERS] = {0, 0, 0};

@@ -14,7 +14,7 @@
  * row[LAS_ROW_NUMBER], is LAS_OK, and then row[LAS_ROW_VALUE] is the result and row[LAS_ROW_RECORD] is 0; or it is one of
  * the LAS_REFUSED_ numbers below, with the value that stands beside it there and, for a record of a file or of a run, its
  * number, counted from 1. A call gives the first refusal in the order in which its sentence names them, and a refused call
- * leaves everything but its row as it was; of a place made by hand las_file_next says more.
+ * leaves everything but its row as it was.
  *
  * Words. Formats, flags and angles are words, uint32_t. Every word means something, so none is refused.
  *   A format has the LAS_FORMAT_ bits and, in bits 16 to 31, its count of extra bytes.
@@ -27,7 +27,8 @@
  * LAS_VLR_NUMBERS and two texts. A signed field stands in two's complement of its own width, as in
  * (int32_t)point[LAS_POINT_X], and a float as its bits, to be copied into a float or double by memcpy, so that every bit
  * pattern is kept. Of what may be missing one number says whether it is there. Read, what is missing is zeros; written, its
- * numbers are ignored, and of a number too wide for its field the low bits count. Texts are bytes and need not end with 0.
+ * numbers are ignored, and of a number too wide for its field the low bits count, but for the length of a VLR's data, which
+ * las_vlr_write refuses. Texts are bytes and need not end with 0.
  *
  * A walker's place and a cursor are numbers that the caller keeps from call to call. Every number in them means something,
  * so that one made by hand is taken too.
@@ -88,7 +89,8 @@ enum {
     LAS_REFUSED_INDEX = 27              /* the count of points */
 };
 
-/* Some of the caller's bytes, as two numbers: where they start in the slice that was lent, and how many there are. */
+/* Some of the caller's bytes, as two numbers: where they start in the slice that was lent, and how many there are. Where there
+ * are none, both are 0, so that they lie in every slice. */
 enum {
     LAS_SPAN_START = 0,
     LAS_SPAN_LENGTH = 1,
@@ -312,8 +314,8 @@ void las_vlr_read(const uint8_t *s, size_t s_len, bool extended, uint64_t row[3]
 void las_vlr_data(const uint8_t *s, size_t s_len, bool extended, uint64_t span[2]);
 
 /* Writes a VLR, or extended an EVLR, head and data, to the front of dst, and leaves what lies past it; the value is the
- * count of bytes. Refuses with LAS_REFUSED_VLR_DATA_LENGTH where the data has not the stated length, then with
- * LAS_REFUSED_NO_ROOM, and leaves dst. */
+ * count of bytes. Refuses with LAS_REFUSED_VLR_DATA_LENGTH where a VLR's stated length has more than 16 bits or the data has
+ * not the stated length, then with LAS_REFUSED_NO_ROOM, and leaves dst. */
 void las_vlr_write(bool extended, const uint64_t numbers[3], const uint8_t user_id[16], const uint8_t description[32],
                    const uint8_t *data, size_t data_len, uint8_t *dst, size_t dst_len, uint64_t row[3]);
 
@@ -324,8 +326,8 @@ void las_vlr_measure(const uint8_t *s, size_t s_len, bool extended, uint64_t row
 /* The bytes of a head: 54 of a VLR, 60 of an EVLR. */
 uint64_t las_vlr_head_size(bool extended);
 
-/* The length that the head at the start of s states; a byte past the end counts as 0. */
-uint64_t las_vlr_stated(const uint8_t *s, size_t s_len, bool extended);
+/* The length that the head at the start of s states. Refuses with LAS_REFUSED_SHORT where the head is not all there. */
+void las_vlr_stated(const uint8_t *s, size_t s_len, bool extended, uint64_t row[3]);
 
 /* The default VLR: zeros, without data. */
 void las_vlr_default(uint64_t numbers[3], uint8_t user_id[16], uint8_t description[32]);
@@ -379,8 +381,8 @@ enum {
 void las_header_read(const uint8_t *s, size_t s_len, uint64_t row[3], uint64_t numbers[51], uint8_t guid[16],
                      uint8_t system[32], uint8_t software[32]);
 
-/* Where the header's padding is in s, the bytes between the version's size and the size field; 0 and 0 where
- * las_header_read refuses. */
+/* Where the header's padding is in s, the bytes between the version's size and the size field; none where las_header_read
+ * refuses. */
 void las_header_padding(const uint8_t *s, size_t s_len, uint64_t span[2]);
 
 /* How many points the header at the front of s counts: the legacy count where it is not 0, else the large count, if any.
@@ -483,8 +485,7 @@ void las_file_walker(const uint8_t *file, size_t file_len, uint64_t allowance, u
 
 /* The next point of the file from a place on, and the place after it; the value is 0. Refuses with the refusal that the
  * place holds; else after the last point, and of a place made by hand whose format is longer than 65,535 bytes or whose next
- * record lies outside the file, with LAS_REFUSED_INDEX. A refusal leaves the numbers, and the place stays where it is: of a
- * place made by hand, though, LAS_REFUSED_INDEX sets to 0 what means nothing in it, as bits 6 to 15 of its format word. */
+ * record lies outside the file, with LAS_REFUSED_INDEX; and leaves the place and the numbers. */
 void las_file_next(const uint8_t *file, size_t file_len, uint64_t place[7], uint64_t row[3], uint64_t numbers[24]);
 
 /* Where the record of the next point is in the file, for las_point_extra and for whoever wants its bytes, and how many bytes

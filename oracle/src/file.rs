@@ -408,10 +408,10 @@ impl<'a, L: Library> Comparison<'a, L> {
                 0 => (Answer::refusal(27, self.found.points()), [BEFORE; 24]),
                 _ => (answer, [BEFORE; 24]),
             };
-            // Where the walker is, and the record's bytes if there is one.
+            // The record's bytes, if there is one.
             let span = match rules.0.number {
                 0 => self.found.point_span(k),
-                _ => [place[1], 0],
+                _ => [0, 0],
             };
             let told = capi::span(|part| self.port.record(&lent.file[..shown], &place, part));
             if told != span && record.is_none() {
@@ -592,14 +592,13 @@ fn step(file: &[u8], place: Place) -> (Row, PointNumbers, Place) {
     if number != 0 {
         return ([number, value, record], [BEFORE; 24], place);
     }
-    // bits that mean nothing are not kept
+    // a refusal leaves the place as it is; a step keeps no bits that mean nothing
     let format = format::format(word as u32);
     let word = format::word(format);
     let length = record_len(word);
     let end = u128::from(at) + length as u128;
-    let stays = [word.into(), at, left, count, 0, 0, 0];
     if left == 0 || length > LONGEST || end > file.len() as u128 {
-        return ([27, count, 0], [BEFORE; 24], stays);
+        return ([27, count, 0], [BEFORE; 24], place);
     }
     match Point::read_from(&file[at as usize..], &format) {
         Ok(point) => {
@@ -618,14 +617,14 @@ fn compare_places(library: &impl Library) -> Report {
     Lcg::new(0).fill(&mut file);
     let mut compare = |place: Place| {
         let rules = step(&file, place);
-        let length = match rules.0 {
-            [0, ..] => rules.2[1] - place[1],
-            _ => 0,
+        let record = match rules.0 {
+            [0, ..] => [place[1], rules.2[1] - place[1]],
+            _ => [0, 0],
         };
         let span = capi::span(|part| library.record(&file, &place, part));
         let (mut row, mut numbers, mut after) = ([u64::MAX; 3], [BEFORE; 24], place);
         library.next(&file, &mut after, &mut row, &mut numbers);
-        let same = rules == (row, numbers, after) && span == [place[1], length];
+        let same = rules == (row, numbers, after) && span == record;
         report.check(same, || {
             let (told, _, moved) = rules;
             format!("{place:?}: {told:?} {moved:?}, port {row:?} {after:?} {span:?}")

@@ -244,7 +244,7 @@ fn compare_read(outcome: &mut Outcome, i: u64) {
         let refused = by_rule || Header::read_from(&bytes[..]).is_err();
         let agrees = refused && port == wanted && found == BEFORE;
         told(read, agrees, port, by_rule);
-        told(padding, length == 0, wanted, by_rule);
+        told(padding, [start, length] == [0, 0], wanted, by_rule);
         told(points_report, count == wanted, count, by_rule);
         told(end_report, end == wanted, end, by_rule);
         told(format_report, format == wanted, format, by_rule);

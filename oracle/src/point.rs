@@ -148,18 +148,16 @@ fn read(report: &mut Report, word: u32, bytes: &[u8]) {
     report.by_rule(rust.0.by_rule());
 }
 
-/// Compares the place and the count of the extra bytes, and so the bytes themselves. Where the read
-/// is refused there are none; the place is the format's own all the same.
+/// Compares the place and the count of the extra bytes, and so the bytes themselves. Where there are
+/// none, as where the read is refused, both are 0.
 fn extra(report: &mut Report, word: u32, bytes: &[u8]) {
     let start = record_len(word) - usize::from(format::format(word).extra_bytes);
     let extra = rust_read(word, bytes).map_or(Vec::new(), |point| point.extra_bytes);
     let [at, len] = capi::span(|part| capi::las_point_extra(bytes, word, part));
-    let part = match len {
-        0 => Some(&[][..]),
-        _ => at
-            .checked_add(len)
-            .and_then(|end| bytes.get(at as usize..end as usize)),
-    };
+    let start = if extra.is_empty() { 0 } else { start };
+    let part = at
+        .checked_add(len)
+        .and_then(|end| bytes.get(at as usize..end as usize));
     let same = at == start as u64 && part == Some(&extra[..]);
     report.check(same, || {
         let (bytes, extra) = (shown(bytes), shown(&extra));

@@ -64,19 +64,6 @@ impl Case {
         })
     }
 
-    /// The length that the head states, of which a byte past the end counts as 0.
-    fn stated_so_far(&self) -> u64 {
-        let mut whole = self.bytes.clone();
-        whole.resize(whole.len().max(head(self.extended)), 0);
-        let extended = self.extended;
-        Case {
-            bytes: whole,
-            extended,
-        }
-        .stated()
-        .expect("a whole head")
-    }
-
     /// Whether the Rust can be asked: it panics at a length that no memory holds.
     fn askable(&self) -> bool {
         self.stated().is_none_or(|stated| stated <= 1 << 16)
@@ -146,7 +133,7 @@ fn compare_read(outcome: &mut Outcome, i: u64) {
                 let data = start as usize..(start + count) as usize;
                 found == head_of(vlr) && case.bytes.get(data) == Some(&vlr.data[..])
             }
-            None => found == BEFORE && count == 0,
+            None => found == BEFORE && [start, count] == [0, 0],
         };
     let [reading, measuring, stating] = &mut outcome.reports;
     reading.check(agrees, || format!("record {i}: port {port}"));
@@ -156,9 +143,13 @@ fn compare_read(outcome: &mut Outcome, i: u64) {
     measuring.compare(answer, port, || format!("record {i}"));
     measuring.by_rule(!case.askable());
 
-    // Of a record that is not all there the Rust tells nothing.
-    let stated = rust.as_ref().map_or(case.stated_so_far(), length);
-    let port = capi::las_vlr_stated(&case.bytes, case.extended);
+    // Of a record that is not all there the Rust tells nothing; of a head that is, the port does.
+    let stated = match (&rust, case.stated()) {
+        (Some(vlr), _) => Answer::result(length(vlr)),
+        (None, Some(stated)) => Answer::result(stated),
+        (None, None) => Answer::refusal(1, head(case.extended) as u64),
+    };
+    let port = capi::row(|row| capi::las_vlr_stated(&case.bytes, case.extended, row));
     stating.compare(stated, port, || format!("record {i}"));
     stating.by_rule(rust.is_none());
 }

@@ -7,9 +7,9 @@ use lib.ListN.{length, drop}
 use Rattle.refusal.specs.declared.Refusal.the-variants.{NoRoom}
 use Rattle.words.specs.Rows.{refusedRow}
 use Rattle.cursor.specs.declared.Part.{Part}
-use Rattle.cursor.specs.declared.Started.{Started}
-use Rattle.cursor.specs.declared.Started.the-variants as started
-use Rattle.cursor.specs.Cursor.{leftOf}
+use Rattle.file.specs.Rules.{checkedOf}
+use Rattle.cursor.specs.Parts.{outlineIn, partsOf}
+use Rattle.cursor.specs.Started.{byCheck}
 use Rattle.capi_cursor.specs.Numbers.{kindNumber}
 
 -- three numbers for each part
@@ -23,6 +23,7 @@ tableRow ps d =
     cond (ltb (length d) (3 * length ps)) (refusedRow (NoRoom (length ps)) 0, d)
     (0 ∷ length ps ∷ 0 ∷ [], numbersOf ps ++ drop (3 * length ps) d)
 
-abbrev pub partsRow : List ℕ → List ℕ → Started → List ℕ × List ℕ
-partsRow s d (started.At c) = tableRow (leftOf s c) d
-partsRow s d (started.Refused r k) = (refusedRow r k, d)
+-- the parts of an accepted file, or the file check's refusal, which leaves the table
+unfoldable pub partsRow : ℕ → List ℕ → List ℕ → List ℕ × List ℕ
+partsRow allowance s d =
+    byCheck (λ ps. tableRow ps d) (λ r k. (refusedRow r k, d)) (partsOf (outlineIn s) s) (checkedOf allowance s)

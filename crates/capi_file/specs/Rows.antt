@@ -1,7 +1,7 @@
 -- The rows of the file check, of rewriting and of the format of the points.
 use Prim.Native.Nat.{ℕ}
 use mathlib.Core.List.{List, [], _∷_}
-use Rattle.refusal.specs.Table.{numberOf, valueOf}
+use Rattle.refusal.specs.Table.{rowOf}
 use Rattle.words.specs.Words.{formatWord}
 use Rattle.words.specs.Rows.{refusedRow}
 use Rattle.header.specs.declared.HeaderAnswer.{HeaderAnswer}
@@ -17,7 +17,7 @@ use Rattle.rewrite.specs.declared.Rewrote.the-variants as rewrote
 -- number, value, record number, and the records found whole
 abbrev pub checkedRow : Checked → List ℕ
 checkedRow (checked.Accepted n) = 0 ∷ 0 ∷ 0 ∷ n ∷ []
-checkedRow (checked.Refused r k n) = numberOf r ∷ valueOf r ∷ k ∷ n ∷ []
+checkedRow (checked.Refused r k n) = let row = rowOf r k in row .number ∷ row .value ∷ row .«record» ∷ n ∷ []
 
 -- a rewriting's row, whose value is the count of bytes, and the destination beside it
 abbrev pub rewroteBy : Rewrote → List ℕ

@@ -6,7 +6,7 @@ ghost use Prim.Native.Nat.{_*_, _≤_};
 ghost use lib.ListN.{length, drop};
 ghost use Rattle.header.specs.Judged.{readOf};
 ghost use Rattle.file.specs.Rules.{checkedOf};
-ghost use Rattle.cursor.specs.Cursor.{leftOf, startedOf};
+ghost use Rattle.cursor.specs.Cursor.{leftOf};
 ghost use Rattle.rewrite.specs.Rewritten.{rewrittenOf};
 ghost use Rattle.capi_file.specs.Rows.{checkedRow, rewroteRow, formatRow};
 ghost use Rattle.capi_file.specs.Parts.{numbersOf, partsRow};
@@ -41,7 +41,7 @@ pub extern "C" fn las_file_check(file: &[u8], allowance: u64, row: &mut [u64; 4]
 // 22 and the parts wanted where the table has no three numbers for each; a refusal leaves the table.
 #[no_mangle]
 pub extern "C" fn las_file_parts(file: &[u8], allowance: u64, table: &mut [u64], row: &mut [u64; 3])
-    ensures { λ _. ⌜ (now (row .exit), now (table .exit)) ≡ partsRow (now (file .entry)) (now (table .entry)) (startedOf allowance (now (file .entry))) ⌝ }
+    ensures { λ _. ⌜ (now (row .exit), now (table .exit)) ≡ partsRow allowance (now (file .entry)) (now (table .entry)) ⌝ }
 {
     match cursor::start(file, allowance) {
         Started::At(c) => {

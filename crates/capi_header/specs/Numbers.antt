@@ -2,10 +2,10 @@
 use Prim.Native.Nat.{ℕ, zero, suc}
 use mathlib.Core.Bool.{Bool, true, false}
 use mathlib.Core.List.{List, [], _∷_, _++_}
-use lib.Ieee.{Float, binary64}
+use lib.Ieee.{Float}
 use lib.ListN.{getD, length}
-use Rattle.le.specs.Real.{patternOf}
-use Rattle.words.specs.Rows.{refusedRow}
+use Rattle.le.specs.Real.{f64BitsOf}
+use Rattle.words.specs.Rows.{refusedRow, partRow}
 use Rattle.header.specs.declared.OptionU64.{OptionU64}
 use Rattle.header.specs.declared.OptionU64.the-variants as start
 use Rattle.header.specs.declared.Evlr.{Evlr}
@@ -47,7 +47,7 @@ hasLarge false = 0
 
 -- the bits of a float with its NaN's pattern beside it
 abbrev pub bits : Float → ℕ → ℕ
-bits value nan = patternOf binary64 value nan
+bits value nan = f64BitsOf (record { value = value; nan = nan })
 
 -- a header's 51 numbers: the fields up to the counts by return, the floats, and what may be missing
 abbrev pub listed : Header → List ℕ → ℕ → ℕ → ℕ → Evlr → ℕ → LargeFile → List ℕ
@@ -91,13 +91,13 @@ readBy lent h (answer.Refused r) = (refusedRow r 0, lent)
 unfoldable pub readRow : Lent → HeaderRead → List ℕ × Lent
 readRow lent r = readBy lent (r .header) (r .answer)
 
--- the place and the count of the padding, 0 and 0 on refusal
+-- the place and the count of the padding; two zeros where there is none, as on refusal
 abbrev pub blockOf : HeaderAnswer → ℕ
 blockOf (answer.Whole n e) = n
 blockOf (answer.Refused r) = 0
 
 unfoldable pub paddingPart : List ℕ → List ℕ
-paddingPart s = blockOf (readOf s .answer) ∷ length (paddingOf s) ∷ []
+paddingPart s = partRow (blockOf (readOf s .answer)) (length (paddingOf s))
 
 -- the row of what is told of a header, which a refusal stands in for
 abbrev pub toldBy : List ℕ → HeaderAnswer → List ℕ

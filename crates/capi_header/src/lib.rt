@@ -10,13 +10,11 @@
 //   guid (16 bytes), system identifier (32), generating software (32)
 // A number of a part that is missing is 0. Rows are those of the crate words; crate `capi_header_write` is the way back.
 ghost use mathlib.Core.Path.{_≡_};
-ghost use lib.Ieee.{binary64};
-ghost use Rattle.le.specs.Real.{patternOf};
 ghost use mathlib.Core.Bool.{cond};
 ghost use Rattle.header.specs.Header.{noLarge, defaultHeader, endOfPoints};
 ghost use Rattle.header.specs.Judged.{standardOf, readOf};
 ghost use Rattle.header_write.specs.Bytes.{startBack, evlrBack};
-ghost use Rattle.capi_header.specs.Numbers.{hasStart, hasEvlr, hasLarge, numbersOf, lentOf, readRow, blockOf, paddingPart, pointsRow, endBy, endRow, sizeRow};
+ghost use Rattle.capi_header.specs.Numbers.{hasStart, hasEvlr, hasLarge, bits, numbersOf, lentOf, readRow, blockOf, paddingPart, pointsRow, endBy, endRow, sizeRow};
 use header::EndOfPoints;
 use header::Evlr;
 use header::Header;
@@ -58,7 +56,7 @@ pub extern "C" fn las_header_read(
     }
 }
 
-// Where the header's padding starts in s, and how many bytes it has: 0 and 0 where the header is refused.
+// Where the header's padding starts in s, and how many bytes it has; two zeros where there is none, as where the header is refused.
 #[no_mangle]
 pub extern "C" fn las_header_padding(s: &[u8], part: &mut [u64; 2])
     ensures { λ _. ⌜ now (part .exit) ≡ paddingPart (now (s .entry)) ⌝ }
@@ -66,7 +64,7 @@ pub extern "C" fn las_header_padding(s: &[u8], part: &mut [u64; 2])
     let read = Header::read_from(s);
     let answer = read.answer;
     let padding = header::padding(s);
-    *part = [block_of(answer) as u64, padding.len() as u64];
+    words::tell_part(part, block_of(answer) as u64, padding.len() as u64)
 }
 
 // How many points the header at the front of s counts.
@@ -220,7 +218,7 @@ fn numbers_of(h: Header) -> [u64; 51]
 
 // The bits of an f64 with its NaN's pattern beside it.
 fn float_bits(value: f64, nan: u64) -> u64
-    ensures { λ r. ⌜ r ≡ patternOf binary64 value nan ⌝ }
+    ensures { λ r. ⌜ r ≡ bits value nan ⌝ }
 {
     float::f64_bits(float::F64 { value, nan })
 }

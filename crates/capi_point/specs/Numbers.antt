@@ -3,13 +3,13 @@ use Prim.Native.Nat.{ℕ, _%_}
 use mathlib.Core.Bool.{cond}
 use mathlib.Core.List.{List, [], _∷_}
 use lib.Dec.{eqb}
-use lib.Ieee.{binary32}
+use lib.Ieee.{Float}
 use lib.ListN.{getD, length}
 use mir.Syntax.{w32}
 use mir.Val.{toZ, ofZ}
-use Rattle.le.specs.Real.{f32Of, f64Of, f64BitsOf, patternOf}
+use Rattle.le.specs.Real.{f32Of, f64Of, f32BitsOf, f64BitsOf}
 use Rattle.words.specs.Words.{flagsOf, flagsWord, angleOf, angleWord}
-use Rattle.words.specs.Rows.{refusedRow}
+use Rattle.words.specs.Rows.{refusedRow, partRow}
 use Rattle.format.specs.declared.Format.{Format}
 use Rattle.format.specs.declared.Field.the-variants.{ExtraBytes}
 use Rattle.format.specs.Fields.{placeOf}
@@ -81,16 +81,20 @@ abbrev pub waveformOr : MaybeWaveform → Waveform
 waveformOr (waveform.Some w) = w
 waveformOr waveform.None = waveformFrom 0 0 0 (record { location = 0; «x_t» = 0; «y_t» = 0; «z_t» = 0 })
 
+-- the bits of a float with its NaN's pattern beside it
+abbrev pub bitsOf : Float → ℕ → ℕ
+bitsOf value nan = f32BitsOf (record { value = value; nan = nan })
+
 -- a point's 24 numbers
 abbrev pub listed : ℕ → ℕ → ℕ → Point → ℕ → ℕ → ℕ → ℕ → ℕ → Color → ℕ → ℕ → ℕ → Waveform → List ℕ
 listed x y z p flags angle hasT t hasC c hasN n hasW w =
     x ∷ y ∷ z ∷ p .intensity ∷ flags ∷ angle ∷ p .«user_data» ∷ p .«point_source_id» ∷
     hasT ∷ t ∷ hasC ∷ c .red ∷ c .green ∷ c .blue ∷ hasN ∷ n ∷
     hasW ∷ w .«wave_packet_descriptor_index» ∷ w .«byte_offset_to_waveform_data» ∷ w .«waveform_packet_size_in_bytes» ∷
-    patternOf binary32 (w .«return_point_waveform_location») (w .nans .«return_point_waveform_location») ∷
-    patternOf binary32 (w .«x_t») (w .nans .«x_t») ∷
-    patternOf binary32 (w .«y_t») (w .nans .«y_t») ∷
-    patternOf binary32 (w .«z_t») (w .nans .«z_t») ∷ []
+    bitsOf (w .«return_point_waveform_location») (w .nans .«return_point_waveform_location») ∷
+    bitsOf (w .«x_t») (w .nans .«x_t») ∷
+    bitsOf (w .«y_t») (w .nans .«y_t») ∷
+    bitsOf (w .«z_t») (w .nans .«z_t») ∷ []
 
 unfoldable pub numbersOf : Point → List ℕ
 numbersOf p =
@@ -103,9 +107,9 @@ abbrev pub readRow : List ℕ → PointRead → List ℕ × List ℕ
 readRow n (read.Is p) = (0 ∷ 0 ∷ 0 ∷ [], numbersOf p)
 readRow n (read.Refused r) = (refusedRow r 0, n)
 
--- the place and the count of the extra bytes
+-- the place and the count of the extra bytes; two zeros where there are none, as on refusal
 unfoldable pub extraPart : Format → List ℕ → List ℕ
-extraPart f s = placeOf f ExtraBytes ∷ length (extraOf f s) ∷ []
+extraPart f s = partRow (placeOf f ExtraBytes) (length (extraOf f s))
 
 -- a point from 24 numbers; any number but 0 says that a part is there, and of a number too wide the low bits count
 unfoldable pub timeFrom : ℕ → ℕ → MaybeTime

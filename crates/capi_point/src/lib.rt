@@ -13,9 +13,7 @@ ghost use Rattle.words.specs.Words.{formatOfWord};
 ghost use Rattle.point.specs.Read.{noPoint, readOf};
 ghost use Rattle.point_write.specs.Write.{writtenOf};
 ghost use Rattle.words.specs.Rows.{writtenRow};
-ghost use Rattle.capi_point.specs.Numbers.{hasTime, timeBitsOf, hasColor, colorOr, hasNir, nirOr, hasWaveform, waveformOr, numbersOf, readRow, extraPart, timeFrom, colorFrom, nirFrom, waveformFrom, maybeWaveformFrom, pointFrom};
-ghost use lib.Ieee.{binary32};
-ghost use Rattle.le.specs.Real.{patternOf};
+ghost use Rattle.capi_point.specs.Numbers.{hasTime, timeBitsOf, hasColor, colorOr, hasNir, nirOr, hasWaveform, waveformOr, bitsOf, numbersOf, readRow, extraPart, timeFrom, colorFrom, nirFrom, waveformFrom, maybeWaveformFrom, pointFrom};
 use le::float;
 use le::signed;
 use lent::Wrote;
@@ -47,7 +45,7 @@ pub extern "C" fn las_point_read(s: &[u8], format: u32, row: &mut [u64; 3], numb
     }
 }
 
-// Where the point's extra bytes start in s, and how many there are: none where the read is refused.
+// Where the point's extra bytes start in s, and how many there are; two zeros where there are none, as where the read is refused.
 #[no_mangle]
 pub extern "C" fn las_point_extra(s: &[u8], format: u32, part: &mut [u64; 2])
     ensures { λ _. ⌜ now (part .exit) ≡ extraPart (formatOfWord format) (now (s .entry)) ⌝ }
@@ -55,7 +53,7 @@ pub extern "C" fn las_point_extra(s: &[u8], format: u32, part: &mut [u64; 2])
     let of_word = words::format_of(format);
     let at = layout::places_for(of_word);
     let extra = point::extra_bytes(s, of_word);
-    *part = [at.extra_bytes as u64, extra.len() as u64];
+    words::tell_part(part, at.extra_bytes as u64, extra.len() as u64)
 }
 
 // Writes the point of 24 numbers and its extra bytes to the front of dst; the row's value is the count of bytes.
@@ -240,7 +238,7 @@ fn waveform_or(waveform: MaybeWaveform) -> Waveform
 
 // The bits of an f32 with its NaN's pattern beside it.
 fn float_bits(value: f32, nan: u32) -> u64
-    ensures { λ r. ⌜ r ≡ patternOf binary32 value nan ⌝ }
+    ensures { λ r. ⌜ r ≡ bitsOf value nan ⌝ }
 {
     float::f32_bits(float::F32 { value, nan }) as u64
 }

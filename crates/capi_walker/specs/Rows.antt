@@ -7,7 +7,7 @@ use lib.ListN.{getD, length}
 use Rattle.refusal.specs.declared.Row.{Row}
 use Rattle.refusal.specs.Table.{rowOf}
 use Rattle.words.specs.Words.{formatOfWord, formatWord}
-use Rattle.words.specs.Rows.{refusedRow}
+use Rattle.words.specs.Rows.{refusedRow, partRow}
 use Rattle.walker.specs.declared.Start.{Start}
 use Rattle.walker.specs.declared.Start.the-variants as start
 use Rattle.walker.specs.declared.Place.{Place}
@@ -31,18 +31,18 @@ unfoldable pub placeFrom : List ℕ → Place
 placeFrom n =
     record { format = formatOfWord (getD n 0 0 % 4294967296); at = getD n 1 0; left = getD n 2 0; count = getD n 3 0; start = start.Accepted }
 
--- a step's place, row and numbers; where there is no point the numbers stay
-abbrev pub tookRow : Walked → Place → List ℕ → List ℕ × List ℕ × List ℕ
-tookRow (walked.Point p) next numbers = (placeNumbers next, 0 ∷ 0 ∷ 0 ∷ [], numbersOf p)
-tookRow (walked.Refused r k) next numbers = (placeNumbers next, refusedRow r k, numbers)
+-- a step's place, row and numbers; where there is no point the place and the numbers stay
+abbrev pub tookRow : List ℕ → List ℕ → Walked → Place → List ℕ × List ℕ × List ℕ
+tookRow n numbers (walked.Point p) next = (placeNumbers next, 0 ∷ 0 ∷ 0 ∷ [], numbersOf p)
+tookRow n numbers (walked.Refused r k) next = (n, refusedRow r k, numbers)
 
 -- the next point of the place n: a refused walk repeats its refusal
 unfoldable pub nextRow : List ℕ → List ℕ → List ℕ → List ℕ × List ℕ × List ℕ
 nextRow s n numbers =
     cond (eqb (getD n 4 0) 0)
-    (let took = tookOf s (placeFrom n) in tookRow (took .answer) (took .next) numbers)
+    (let took = tookOf s (placeFrom n) in tookRow n numbers (took .answer) (took .next))
     (n, getD n 4 0 ∷ getD n 5 0 ∷ getD n 6 0 ∷ [], numbers)
 
--- the place and the count of the next record's bytes; a refused walk has none
+-- the place and the count of the next record's bytes; two zeros where there is none, as in a refused walk
 unfoldable pub recordPart : List ℕ → List ℕ → List ℕ
-recordPart s n = getD n 1 0 ∷ cond (eqb (getD n 4 0) 0) (length (recordOf s (placeFrom n))) 0 ∷ []
+recordPart s n = cond (eqb (getD n 4 0) 0) (partRow (getD n 1 0) (length (recordOf s (placeFrom n)))) (0 ∷ 0 ∷ [])

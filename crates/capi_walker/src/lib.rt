@@ -20,8 +20,7 @@ pub extern "C" fn las_file_walker(file: &[u8], allowance: u64, place: &mut [u64;
 }
 
 // The next point as 24 numbers, and the place after it; a place with a refusal repeats it, and else, at the end, 27 with the
-// count. Where there is no point the numbers stay as they were and the place stays where it is: with a refusal number by number, at
-// 27 in its normal form, where what means nothing in it is 0, as in every place that these calls have written.
+// count. Where there is no point the place and the numbers stay as they were.
 #[no_mangle]
 pub extern "C" fn las_file_next(
     file: &[u8],
@@ -36,11 +35,11 @@ pub extern "C" fn las_file_next(
         return;
     }
     let took = walker::take_at(file, place_from(place));
-    let next = took.next;
-    *place = place_numbers(next);
     let answer = took.answer;
     match answer {
         Walked::Point(point) => {
+            let next = took.next;
+            *place = place_numbers(next);
             *numbers = capi_point::numbers_of(point);
             words::tell(row, 0, 0, 0)
         }
@@ -48,17 +47,17 @@ pub extern "C" fn las_file_next(
     }
 }
 
-// Where the next record stands in the file, and how many bytes it has: none where there is no next record.
+// Where the next record stands in the file, and how many bytes it has; two zeros where there is no next record.
 #[no_mangle]
 pub extern "C" fn las_file_record(file: &[u8], place: &[u64; 7], part: &mut [u64; 2])
     ensures { λ _. ⌜ now (part .exit) ≡ recordPart (now (file .entry)) (now (place .entry)) ⌝ }
 {
     if place[4] != 0 {
-        *part = [place[1], 0];
+        *part = [0, 0];
         return;
     }
     let record = walker::record_at(file, place_from(place));
-    *part = [place[1], record.len() as u64];
+    words::tell_part(part, place[1], record.len() as u64)
 }
 
 // A place as seven numbers.

@@ -1,16 +1,18 @@
 // The parts program's work: document 01, "The parts program reads standard input". What is printed is outside the logic, so
-// these functions promise only that they are safe and end; the numbers printed are those that the cursor and the file check
-// promise.
-use cursor::Cursor;
+// these functions promise only that they are safe and end; the numbers printed are those that the part table and the file
+// check promise.
 use cursor::Kind;
 use cursor::Part;
-use cursor::Started;
 use libc::STDIN_FILENO;
 use libc::STDOUT_FILENO;
+use parts::Tabled;
 use refusal::Row;
 
 // More records than 65,536 bytes hold, so that no file is refused for it.
 const ALLOWANCE: u64 = 1300;
+
+// As many parts as that many records, and what stands around them, can make.
+const ENTRIES: usize = 1310;
 
 // Lists the first 65,536 bytes of standard input.
 pub fn run() {
@@ -19,23 +21,41 @@ pub fn run() {
     list(&file[..n]);
 }
 
-// Prints the parts of a file under their heading, or its refusal.
+// Prints the parts of a file under their heading, or its refusal: the table is made here, and lent to be filled.
 pub fn list(file: &[u8]) {
-    match cursor::start(file, ALLOWANCE) {
-        Started::At(c) => list_parts(file, c),
-        Started::Refused { refusal, record } => print_refused(refusal.row(record)),
+    let unfilled = unfilled();
+    let mut table = [unfilled; ENTRIES];
+    let tabled = parts::parts(file, ALLOWANCE, &mut table);
+    print_table(tabled, table);
+}
+
+// What an entry of the table holds before it is filled.
+fn unfilled() -> Part {
+    Part {
+        kind: Kind::Gap,
+        start: 0,
+        length: 0,
     }
 }
 
-// A line for each part from the cursor on; ends early where nothing more can be written.
-fn list_parts(file: &[u8], c: Cursor) {
+// Prints as many entries as were filled, or the refusal.
+fn print_table(tabled: Tabled, table: [Part; ENTRIES]) {
+    match tabled {
+        Tabled::Entries(n) => print_entries(table, n),
+        Tabled::Refused { refusal, record } => print_refused(refusal.row(record)),
+    }
+}
+
+// A line for each of the first n entries; ends early where nothing more can be written.
+fn print_entries(table: [Part; ENTRIES], n: usize) {
     io::write_all(STDOUT_FILENO, b"kind start length\n");
-    let mut step = cursor::next(file, c);
-    while step.has {
-        if !print_part(step.part) {
+    for i in 0..ENTRIES {
+        if i == n {
             return;
         }
-        step = cursor::next(file, step.next);
+        if !print_part(table[i]) {
+            return;
+        }
     }
 }
 

@@ -26,9 +26,9 @@ fn end_of(files: &[u8], at: usize) -> usize
     requires { ⌜ at + 4 ≤ length (now files) ⌝ }
     ensures { λ r. ⌜ (at + 4 ≤ r) × (r ≤ length (now (files .entry))) ⌝ }
 {
-    let length = le::u32_at(files, at) as usize;
-    if files.len() - at - 4 < length {
+    let bytes = le::u32_at(files, at) as usize;
+    if files.len() - at - 4 < bytes {
         return files.len();
     }
-    at + 4 + length
+    at + 4 + bytes
 }

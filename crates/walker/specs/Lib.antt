@@ -5,5 +5,6 @@ pub mod Walk
 pub mod Laws
 pub mod Steps
 pub mod Accepted
+pub mod Nearer
 -- theorems
 pub mod Theorems

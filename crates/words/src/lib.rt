@@ -6,7 +6,7 @@ ghost use Prim.Native.Nat.{_%_, _≤_};
 ghost use lib.ListN.{getD};
 ghost use Rattle.flags.specs.Bytes.{flag};
 ghost use Rattle.words.specs.Words.{packedOf, angleOf, angleWord, flagsOf, flagsWord, formatOfWord, formatWord};
-ghost use Rattle.words.specs.Rows.{refusedRow};
+ghost use Rattle.words.specs.Rows.{refusedRow, partRow};
 use angle::ScanAngle;
 use flags::Flags;
 use format::Format;
@@ -110,6 +110,18 @@ pub fn refuse(row: &mut [u64; 3], refusal: Refusal, record: u64)
 {
     let told = refusal.row(record);
     tell(row, told.number as u64, told.value, told.record)
+}
+
+// A part of a lent slice: where it starts, and its bytes. Of an empty one, as of every part that is refused, both are 0, wherever
+// it would stand.
+pub fn tell_part(part: &mut [u64; 2], at: u64, bytes: u64)
+    ensures { λ _. ⌜ now (part .exit) ≡ partRow at bytes ⌝ }
+{
+    if bytes == 0 {
+        *part = [0, 0];
+        return;
+    }
+    *part = [at, bytes];
 }
 
 // The number at place k, 0 past the end, and its low bits.

@@ -199,7 +199,7 @@ mod lent {
             row: &mut Row,
         );
         pub(super) fn las_vlr_measure(s: *const u8, len: usize, extended: bool, row: &mut Row);
-        pub(super) fn las_vlr_stated(s: *const u8, len: usize, extended: bool) -> u64;
+        pub(super) fn las_vlr_stated(s: *const u8, len: usize, extended: bool, row: &mut Row);
         pub(super) fn las_vlr_default(
             numbers: &mut [u64; 3],
             user_id: &mut [u8; 16],
@@ -398,9 +398,9 @@ pub fn las_vlr_measure(s: &[u8], extended: bool, row: &mut Row) {
 
 /// The length that its head states.
 #[inline]
-pub fn las_vlr_stated(s: &[u8], extended: bool) -> u64 {
+pub fn las_vlr_stated(s: &[u8], extended: bool, row: &mut Row) {
     // SAFETY: pointer and length are those of one borrowed slice.
-    unsafe { lent::las_vlr_stated(s.as_ptr(), s.len(), extended) }
+    unsafe { lent::las_vlr_stated(s.as_ptr(), s.len(), extended, row) }
 }
 
 /// The default VLR.

@@ -1,7 +1,6 @@
 use mathlib.Core.Path.{sym, ap, _∙_}
 use mathlib.Core.List.{[], _∷_}
 use borrow.Author.Needs.{needs}
-use Rattle.refusal.specs.Table.{rowOf}
 use Rattle.capi_file.specs.Rows.{checkedRow}
 use Rattle.capi_file.proofs.las_file_check.Statement.{statement}
 use Rattle.capi_file.proofs.las_file_check.Tie as tie
@@ -10,7 +9,6 @@ returns : tie.Need-returns
 returns c = ap checkedRow (sym (c .before .before .records .given .1) ∙ c .before .before .before .before .check .ensures)
 
 returns-2 : tie.Need-returns-2
-unfolding rowOf
 returns-2 c =
     let told = c .before .before .row2 in
     let e = c .before .before .before .before in

@@ -1,25 +1,27 @@
-use mathlib.Core.Path.{ap, _∙_}
-use mathlib.Core.List.{[], _∷_}
+use mathlib.Core.Path.{_≡_, ap, _∙_}
 use lib.ListN.{length}
 use Rattle.format.specs.declared.Format.{Format}
 use Rattle.layout.specs.Layout.{placesOf}
+use Rattle.layout.specs.Placed.{placed}
 use Rattle.point.specs.Read.{extraOf}
+use Rattle.words.specs.Rows.{partRow}
+use Rattle.words.specs.Words.{formatOfWord}
 use Rattle.capi_point.specs.Numbers.{extraPart}
 use borrow.Author.Needs.{needs}
 use Rattle.capi_point.proofs.las_point_extra.Statement.{statement}
 use Rattle.capi_point.proofs.las_point_extra.Tie as tie
 
 returns : tie.Need-returns
-unfolding placesOf extraPart
+unfolding extraPart
 returns c =
-    let e = c .before in
+    let e = c .before .before in
     let f = e .before .before .format-of in
-    let s = e .before .before .before .before .args .s .now in
-    let at = e .before .places-for .ensures ∙ ap placesOf (f .ensures) in
-    let extra = e .extra-bytes .ensures ∙ ap (λ (g : Format). extraOf g s) (f .ensures) in
-    λ i. at i .«extra_bytes» ∷ length (extra i) ∷ []
+    let a = e .before .before .before .before .args in
+    let at = placed (formatOfWord (a .format)) (e .before .places-for .ensures ∙ ap placesOf (f .ensures)) .extra in
+    let extra = e .extra-bytes .ensures ∙ ap (λ (g : Format). extraOf g (a .s .now)) (f .ensures) in
+    c .tell-part .ensures ∙ λ i. partRow (at i) (length (extra i))
 
 pub las-point-extra-spec : {M : Type 1} → statement M
 las-point-extra-spec =
     tie.close (tie.spec
-    (λ c κs. search needs) (λ c κs. search needs) (λ c κs. search needs) returns)
+    (λ c κs. search needs) (λ c κs. search needs) (λ c κs. search needs) (λ c κs. search needs) returns)
