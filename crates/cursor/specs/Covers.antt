@@ -17,7 +17,7 @@ use Rattle.file.specs.Holds.{Run}
 use Rattle.cursor.specs.declared.Kind.{Kind}
 use Rattle.cursor.specs.declared.Kind.the-variants as kind
 use Rattle.cursor.specs.declared.Part.{Part}
-use Rattle.cursor.specs.Parts.{part, gap, between, recordParts, evlrsStart, partsOf, Laid, Covers, joined}
+use Rattle.cursor.specs.Parts.{part, gap, between, recordParts, evlrsStart, bodyOf, partsOf, Laid, Covers, joined}
 use Rattle.cursor.specs.Cursor.{planOf, firstOf, recordsFrom, evlrsFrom, endFrom, pointsFrom, vlrsFrom, leftOf}
 use Rattle.cursor.specs.Laws.{between-short, drop-between}
 
@@ -54,13 +54,12 @@ module _ (s : List ℕ) (k : Kind) (extended : Bool) where
       (ap (λ (ps : List Part). part k at m ∷ ps) (tells-records n (at + m) to after (others n at to r)))
 
 points-from : (o : Outline) → o .«offset_to_point_data» ≤ pointsEnd o
-unfolding pointsEnd
 points-from o = omega arith
 
 module _ (o : Outline) (s : List ℕ) (laid : Laid o s) where
   -- the parts cover the file
   pub covered : Covers 0 (length s) (partsOf o s)
-  unfolding partsOf
+  unfolding partsOf bodyOf
   covered =
       let points = o .«offset_to_point_data» in
       let start = evlrsStart o in
@@ -75,12 +74,12 @@ module _ (o : Outline) (s : List ℕ) (laid : Laid o s) where
 
   -- the first cursor has just these parts to tell
   pub first-tells : leftOf s (firstOf (planOf o)) ≡ partsOf o s
-  unfolding partsOf firstOf planOf leftOf vlrsFrom pointsFrom endFrom evlrsFrom
+  unfolding partsOf bodyOf firstOf planOf leftOf vlrsFrom pointsFrom endFrom evlrsFrom
   first-tells =
       let evlrs = tells-records s kind.Evlr true (o .«number_of_evlrs») (evlrsStart o) (length s) [] (laid .evlrs) in
       rw (tells-records s kind.Vlr false (o .«number_of_variable_length_records») (o .«header_size») (o .«offset_to_point_data») _ (laid .vlrs), evlrs, append-nil)
 
-covers-up : (from to : ℕ) (ps : List Part) → Covers from to ps → from ≤ to
+pub covers-up : (from to : ℕ) (ps : List Part) → Covers from to ps → from ≤ to
 covers-up from to [] e = omega arith
 covers-up from to (p ∷ ps) (e, h) = omega (arith, covers-up (from + p .length) to ps h)
 

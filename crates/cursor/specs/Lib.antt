@@ -5,4 +5,6 @@ pub mod Count
 pub mod Stays
 pub mod Accepted
 pub mod Covers
+pub mod Each
+pub mod Started
 pub mod Theorems

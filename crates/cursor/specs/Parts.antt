@@ -43,14 +43,16 @@ unfoldable pub evlrsStart : Outline → ℕ
 evlrsStart o = cond (eqb (o .«number_of_evlrs») 0) (pointsEnd o) (o .«start_of_first_evlr»)
 
 -- "filled in file order, header with its padding first, empty gaps omitted, points always present"
-unfoldable pub partsOf : Outline → List ℕ → List Part
-partsOf o s =
+unfoldable pub bodyOf : Outline → List ℕ → List Part
+bodyOf o s =
     let points = o .«offset_to_point_data» in
-    part Header 0 (o .«header_size») ∷
-    (recordParts Vlr false (o .«number_of_variable_length_records») (o .«header_size») points s
+    recordParts Vlr false (o .«number_of_variable_length_records») (o .«header_size») points s
     ++ (part Points points (pointsEnd o - points) ∷
     (gap (pointsEnd o) (evlrsStart o)
-    ++ recordParts Evlr true (o .«number_of_evlrs») (evlrsStart o) (length s) s)))
+    ++ recordParts Evlr true (o .«number_of_evlrs») (evlrsStart o) (length s) s))
+
+unfoldable pub partsOf : Outline → List ℕ → List Part
+partsOf o s = part Header 0 (o .«header_size») ∷ bodyOf o s
 
 -- What the rules of an accepted file say of its parts.
 pub record Laid (o : Outline) (s : List ℕ) : Type 0 where
@@ -64,6 +66,11 @@ pub record Laid (o : Outline) (s : List ℕ) : Type 0 where
 abbrev pub Covers : ℕ → ℕ → List Part → Type 0
 Covers from to [] = from ≡ to
 Covers from to (p ∷ ps) = (p .start ≡ from) × Covers (from + p .length) to ps
+
+-- something is so of each of some parts
+abbrev pub Each : (Part → Type 0) → List Part → Type 0
+Each P [] = Unit
+Each P (p ∷ ps) = P p × Each P ps
 
 -- the bytes of a part, and of several
 abbrev pub bytesOf : List ℕ → Part → List ℕ

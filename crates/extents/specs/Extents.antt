@@ -9,11 +9,11 @@ use Rattle.outline.specs.declared.Outline.{Outline}
 use Rattle.rules.specs.Rules.{Rule, rule, headerRules, recordRules}
 
 -- the first byte after the points; the record length is the header's field
-unfoldable pub pointsEnd : Outline → ℕ
+abbrev pub pointsEnd : Outline → ℕ
 pointsEnd o = o .«offset_to_point_data» + o .«number_of_point_records» * o .«point_data_record_length»
 
 -- "VLRs follow the header without gaps": the bytes between the header and the points
-unfoldable pub vlrBytes : Outline → List ℕ → List ℕ
+abbrev pub vlrBytes : Outline → List ℕ → List ℕ
 vlrBytes o s = take (o .«offset_to_point_data» - o .«header_size») (drop (o .«header_size») s)
 
 unfoldable pub vlrRules : ℕ → Outline → List ℕ → List Rule

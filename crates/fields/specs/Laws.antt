@@ -13,6 +13,14 @@ module _ {F : Type 0} where
   every p [] = none
   every p (f ∷ fs) = p f & every p fs
 
+  pub mapped : {P Q : F → Type 0} → ((f : F) → P f → Q f) → (fs : List F) → All P fs → All Q fs
+  mapped g [] none = none
+  mapped g (f ∷ fs) (p & ps) = g f p & mapped g fs ps
+
+  pub zipped : {P Q R : F → Type 0} → ((f : F) → P f → Q f → R f) → (fs : List F) → All P fs → All Q fs → All R fs
+  zipped g [] none none = none
+  zipped g (f ∷ fs) (p & ps) (q & qs) = g f p q & zipped g fs ps qs
+
   pub both : {P : F → Type 0} {xs ys : List F} → All P xs → All P ys → All P (xs ++ ys)
   both none q = q
   both (x & p) q = x & both p q
@@ -24,6 +32,15 @@ module _ {F : Type 0} where
   pub joined-append : (g : F → List ℕ) (xs ys : List F) → joined g (xs ++ ys) ≡ joined g xs ++ joined g ys
   joined-append g [] ys = refl
   joined-append g (x ∷ xs) ys = rw (append-assoc, joined-append g xs ys)
+
+-- fields that follow each other lie where they all do
+pub within : {F : Type 0} (width place : F → ℕ) (fs : List F) (p n : ℕ) → Follow width place p fs → p + total width fs ≤ n → All (λ (f : F). place f + width f ≤ n) fs
+within width place [] p n e h = none
+within width place (f ∷ fs) p n e h =
+    let here : place f ≡ p = cc in
+    let rest : Follow width place (p + width f) fs = cc in
+    let first : place f + width f ≤ n = omega arith in
+    first & within width place fs (p + width f) n rest (omega arith)
 
 module _ {F : Type 0} (width : F → ℕ) (g : F → List ℕ) where
   -- pieces that are as wide as the table says

@@ -1,3 +1,5 @@
+-- definitions
 pub mod Table
+-- laws
 pub mod Laws
 pub mod Total

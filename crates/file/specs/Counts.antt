@@ -83,12 +83,11 @@ module _ (a most : ℕ) where
 module _ (n minor a : ℕ) (o : Outline) (s : List ℕ) where
   -- the VLRs lie before the points
   pub vlr-bytes : o .«header_size» ≤ o .«offset_to_point_data» → o .«offset_to_point_data» ≤ length s → length (vlrBytes o s) ≡ o .«offset_to_point_data» - o .«header_size»
-  unfolding vlrBytes
   vlr-bytes after inside = length-take-le (o .«offset_to_point_data» - o .«header_size») (drop (o .«header_size») s) (rw length-drop (omega arith))
 
   -- and the EVLRs after them
   sound-evlrs : o .«number_of_variable_length_records» ≤ a → 54 * o .«number_of_variable_length_records» ≤ o .«offset_to_point_data» → o .«offset_to_point_data» ≤ length s → Sound a (length s) (evlrRules a o s)
-  unfolding evlrRules pointsEnd
+  unfolding evlrRules
   sound-evlrs allowed before within = go (eqb (o .«number_of_evlrs») 0)
     where
       fits : Fits a (length s) (o .«number_of_variable_length_records»)
@@ -145,7 +144,7 @@ module _ (n minor a : ℕ) (o : Outline) (s : List ℕ) where
 
   -- all of them, where all rules hold
   pub all-fit : PartsHold n minor a o s → Fits a (length s) (recordsOf o)
-  unfolding recordsOf pointsEnd
+  unfolding recordsOf
   all-fit h = (h .allowed, go (o .«number_of_evlrs») refl)
     where
       vlrs : 54 * o .«number_of_variable_length_records» ≤ o .«offset_to_point_data»

@@ -3,16 +3,21 @@ use Prim.Native.Nat.{ℕ, zero, suc, _+_, _≤_, _<_}
 use mathlib.Core.Path.{_≡_, refl, sym, subst}
 use mathlib.Core.Bool.{Bool, true, false, cond, _||_}
 use mathlib.Core.List.{List, [], _∷_, _++_}
+use native.Mathlib.Nat.{pos-of-ne-zero}
 use native.Mathlib.Omega.{arith}
 use borrow.Author.Tests.{lt-ltb, le-leb, ltb-true, leb-true, eqb-true, eqb-false}
 use lib.Dec.{T, eqb, leb}
 use lib.ListN.{length, drop}
 use Rattle.refusal.specs.declared.Refusal.the-variants.{EvlrStart}
+use Rattle.le.specs.Laws.{num-take}
 use Rattle.vlr.specs.Layout.{headSize}
 use Rattle.vlr.specs.Vlr.{recordSize}
 use Rattle.header.specs.declared.HeaderAnswer.{HeaderAnswer}
 use Rattle.header.specs.declared.HeaderAnswer.the-variants as answer
-use Rattle.header.specs.Judged.{judged, readOf}
+use Rattle.header.specs.Layout.{FileSignature, VersionMajor, VersionMinor, HeaderSize, fieldsOf, size}
+use Rattle.header.specs.Header.{part, number, lasf, headerOf}
+use Rattle.header.specs.Judged.{paddedTo, judged, readBy, readOf}
+use Rattle.header.specs.Laws.{accepted, whole, within}
 use Rattle.outline.specs.declared.Outline.{Outline}
 use Rattle.outline.specs.Outline.{outlineOf}
 use Rattle.rules.specs.Rules.{Rule, rule, highestFormat, formatBytes, headerRules, recordRules}
@@ -24,6 +29,10 @@ use Rattle.extents.specs.Laws.{All}
 abbrev pub Run : Bool → ℕ → List ℕ → Type 0
 Run extended zero rest = Unit
 Run extended (suc k) rest = (recordSize extended rest ≤ length rest) × Run extended k (drop (recordSize extended rest) rest)
+
+-- the standard size of the version that the bytes name
+abbrev pub standardIn : List ℕ → ℕ
+standardIn s = size (fieldsOf (number VersionMinor s))
 
 -- rules 2 to 8, for a header of standard size n and version 1.minor
 pub record PartsHold (n minor allowance : ℕ) (o : Outline) (s : List ℕ) : Type 0 where
@@ -47,12 +56,49 @@ pub record PartsHold (n minor allowance : ℕ) (o : Outline) (s : List ℕ) : Ty
   pub evlr-start : 0 < o .«number_of_evlrs» → (pointsEnd o ≤ o .«start_of_first_evlr») × (o .«start_of_first_evlr» ≤ length s)
   pub evlrs-whole : Run true (o .«number_of_evlrs») (drop (o .«start_of_first_evlr») s)
 
--- all eight: the header reader answers, and the rest holds of what it answered
+-- rule 1, of the bytes alone
+pub record HeaderHolds (s : List ℕ) : Type 0 where
+  -- four bytes and the signature
+  pub four-bytes : 4 ≤ length s
+  pub signature : part FileSignature s ≡ lasf
+  -- 26 bytes and version 1.0 to 1.4
+  pub version-bytes : 26 ≤ length s
+  pub major : number VersionMajor s ≡ 1
+  pub minor : number VersionMinor s ≤ 4
+  -- the version's standard size, and what the header-size field says
+  pub standard-bytes : standardIn s ≤ length s
+  pub field-bytes : number HeaderSize s ≤ length s
+
+-- all eight, of the header that the bytes hold
 pub record Holds (allowance : ℕ) (s : List ℕ) : Type 0 where
-  pub block : ℕ
-  pub end : ℕ
-  pub header : judged s ≡ answer.Whole block end
-  pub parts : PartsHold block (readOf s .header .version .minor) allowance (outlineOf (readOf s .header)) s
+  pub header : HeaderHolds s
+  pub parts : PartsHold (standardIn s) (number VersionMinor s) allowance (outlineOf (readOf s .header)) s
+
+-- rule 1 holds exactly where the header reader answers
+judged-holds : (s : List ℕ) {n e : ℕ} → judged s ≡ answer.Whole n e → HeaderHolds s × (n ≡ standardIn s)
+judged-holds s p =
+    let a = accepted s p in
+    let w = within s p in (
+      record {
+        four-bytes = omega (arith, w .0, w .1, w .2);
+        signature = a .signature;
+        version-bytes = omega (arith, w .0, w .1, w .2);
+        major = a .major;
+        minor = omega (arith, a .minor);
+        standard-bytes = rw (a .block) at (a .holds-block);
+        field-bytes = a .holds-field;
+      },
+      a .block,
+    )
+
+pub holds-judged : (s : List ℕ) → HeaderHolds s → judged s ≡ answer.Whole (standardIn s) (paddedTo (standardIn s) (number HeaderSize s))
+holds-judged s h =
+    whole s (record { signature = h .signature; major = h .major; minor = omega (arith, h .minor); block = refl; holds-block = h .standard-bytes; holds-field = h .field-bytes; end = refl })
+
+-- and then the version is the bytes'
+minor-read : (s : List ℕ) {n e : ℕ} → judged s ≡ answer.Whole n e → readOf s .header .version .minor ≡ number VersionMinor s
+unfolding readOf readBy headerOf
+minor-read s {n} p = rw p (num-take 1 25 s n (omega (arith, within s p .0)))
 
 -- two lists of rules together
 pub all-append : (xs ys : List Rule) → All xs → All ys → All (xs ++ ys)
@@ -82,10 +128,6 @@ unfolding recordRules
 records-all x a n zero rest h run = tt
 records-all x a n (suc k) rest h (whole, run) =
     (lt-ltb n a (omega arith), (le-leb (headSize x) (length rest) (omega (arith, head-within x rest)), (le-leb _ _ whole, records-all x a (suc n) k (drop (recordSize x rest) rest) (omega arith) run)))
-
-positive : (n : ℕ) → (n ≡ 0 → ⊥) → 0 < n
-positive zero h = absurd (h refl)
-positive (suc n) h = omega arith
 
 module _ (n minor a : ℕ) (o : Outline) (s : List ℕ) where
   -- rule 8 and back
@@ -120,7 +162,7 @@ module _ (n minor a : ℕ) (o : Outline) (s : List ℕ) where
       go : (b : Bool) → eqb (o .«number_of_evlrs») 0 ≡ b → All (cond b [] some)
       go true p = tt
       go false p =
-          let from = e .start (positive (o .«number_of_evlrs») (eqb-false _ _ p)) in
+          let from = e .start (pos-of-ne-zero (eqb-false _ _ p)) in
           (le-leb _ _ (from .0), (le-leb _ _ (from .1), records-all true a (o .«number_of_variable_length_records») (o .«number_of_evlrs») (drop (o .«start_of_first_evlr») s) (e .allowed) (e .whole)))
 
   pub parts-hold : All (outlineRules n minor a o s) → PartsHold n minor a o s
@@ -181,9 +223,11 @@ unfolding rulesOf readable standardSize
 rules-hold a s = go (judged s) refl
   where
     go : (j : HeaderAnswer) → judged s ≡ j → All (readable j ++ outlineRules (standardSize j) (readOf s .header .version .minor) a (outlineOf (readOf s .header)) s) → Holds a s
-    go (answer.Whole n e) p all = record { block = n; end = e; header = p; parts = parts-hold n _ a _ s all }
+    go (answer.Whole n e) p all =
+        let h = judged-holds s p in
+        record { header = h .0; parts = rw (h .1, minor-read s p) at (parts-hold n (readOf s .header .version .minor) a _ s all) }
     go (answer.Refused r) p (false-holds, later) = absurd (subst T (sym false-holds) tt)
 
 pub rules-all : (a : ℕ) (s : List ℕ) → Holds a s → All (rulesOf a s)
 unfolding rulesOf readable standardSize
-rules-all a s h = rw (h .header) (parts-all _ _ a _ s (h .parts))
+rules-all a s h = let p = holds-judged s (h .header) in rw (p, minor-read s p) (parts-all _ _ a _ s (h .parts))

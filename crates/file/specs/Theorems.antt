@@ -1,6 +1,7 @@
 -- What the file check's definition adds up to: document 01, "When a file is accepted".
 use Prim.Native.Nat.{ℕ, _*_, _≤_}
-use mathlib.Core.Path.{_≡_, sym}
+use mathlib.Core.Path.{_≡_, ap, sym, _∙_}
+use mathlib.Core.Logic.{_↔_}
 use mathlib.Core.List.{List}
 use lib.ListN.{length}
 use Rattle.refusal.specs.declared.Refusal.{Refusal}
@@ -15,14 +16,18 @@ use Rattle.file.specs.Holds.{Holds, rules-hold, rules-all}
 use Rattle.file.specs.Counts.{foundOf, count-fits}
 
 module _ (allowance : ℕ) (s : List ℕ) where
-  -- "All sums are exact": a file is accepted exactly where rules 1 to 8 hold together, and then all its records were found whole.
-  pub accepted-holds : {n : ℕ} → checkedOf allowance s ≡ Accepted n → Holds allowance s × (n ≡ recordsOf (outlineOf (readOf s .header)))
+  -- "When a file is accepted": it is accepted, with a number of records, exactly when rules 1 to 8 hold together, whatever their order, and
+  -- that is the number of its VLRs and EVLRs.
+  pub accepted : {n : ℕ} → (checkedOf allowance s ≡ Accepted n) ↔ (Holds allowance s × (n ≡ recordsOf (outlineOf (readOf s .header))))
   unfolding checkedOf
-  accepted-holds p = let a = accepted-all (rulesOf allowance s) p in (rules-hold allowance s (a .0), sym (a .1))
+  accepted = (
+    λ p. let a = accepted-all (rulesOf allowance s) p in (rules-hold allowance s (a .0), sym (a .1)),
+    λ (h, n). all-hold (rulesOf allowance s) _ (rules-all allowance s h) ∙ ap Accepted (sym n),
+  )
 
-  pub holds-accepted : Holds allowance s → checkedOf allowance s ≡ Accepted (recordsOf (outlineOf (readOf s .header)))
-  unfolding checkedOf
-  holds-accepted h = all-hold (rulesOf allowance s) _ (rules-all allowance s h)
+  -- so the rules hold of a file that is accepted.
+  pub accepted-holds : {n : ℕ} → checkedOf allowance s ≡ Accepted n → Holds allowance s
+  accepted-holds p = accepted .0 p .0
 
   -- "The answer, yes or no, carries the number of records found whole before it; this is at most the allowance, and 54 times it is
   -- at most the file length."

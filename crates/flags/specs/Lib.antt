@@ -1,5 +1,8 @@
+-- definitions
 pub mod Readings
 pub mod Bytes
+-- laws
 pub mod Bits
 pub mod Laws
+-- theorems
 pub mod Theorems

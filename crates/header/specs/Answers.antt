@@ -1,12 +1,13 @@
 -- Laws of what the reader answers, for whoever asks it: what is read of an accepted header, and which refusals there are.
-use Prim.Native.Nat.{ℕ, _-_, _≤_, _<_}
+use Prim.Native.Nat.{ℕ, _+_, _-_, _≤_, _<_}
 use mathlib.Core.Path.{_≡_, refl, sym, ap, subst, _∙_}
 use mathlib.Core.Bool.{Bool, true, false, cond, _&&_}
 use mathlib.Core.List.{List}
 use native.Mathlib.Omega.{arith}
-use borrow.Author.Tests.{le-ltb, ltb-true, ltb-false}
+use borrow.Author.Tests.{lt-ltb, eq-eqb, ltb-false}
 use lib.Dec.{eqb, ltb}
 use lib.ListN.{length, take, drop}
+use lib.Seq.{length-take-le}
 use Rattle.le.specs.Le.{Bytes}
 use Rattle.le.specs.Laws.{num-take, num-lt, bytes-take}
 use Rattle.refusal.specs.declared.Refusal.{Refusal}
@@ -16,10 +17,11 @@ use Rattle.header.specs.declared.StandardSize.the-variants.{Is, Refused 
 use Rattle.header.specs.declared.HeaderAnswer.{HeaderAnswer}
 use Rattle.header.specs.declared.HeaderAnswer.the-variants.{Whole, Refused}
 use Rattle.header.specs.declared.HeaderRead.{HeaderRead}
-use Rattle.header.specs.Layout.{FileSignature, HeaderSize, PointDataRecordLength, place}
+use Rattle.header.specs.Layout.{Field, FileSignature, VersionMajor, VersionMinor, HeaderSize, PointDataRecordLength, place, width, fieldsOf, size}
 use Rattle.header.specs.Header.{part, number, headerOf, defaultHeader, lasf}
 use Rattle.header.specs.Judged.{eqList, standardOf, versionOf, paddedTo, sized, versioned, judged, readBy, readOf, paddingBy, paddingOf}
-use Rattle.header.specs.Laws.{within}
+use Rattle.header.specs.Window.{part-take}
+use Rattle.header.specs.Laws.{accepted, within}
 
 -- the reader answers as rule 1 judges
 pub answer-is : (s : List ℕ) → readOf s .answer ≡ judged s
@@ -29,6 +31,13 @@ answer-is s = go (judged s)
     go : (a : HeaderAnswer) → readBy a s .answer ≡ a
     go (Whole n e) = refl
     go (Refused r) = refl
+
+-- a block that its version's fields fill
+pub record Block (b : List ℕ) : Type 0 where
+  pub signature : part FileSignature b ≡ lasf
+  pub major : number VersionMajor b ≡ 1
+  pub minor : number VersionMinor b < 5
+  pub fills : length b ≡ size (fieldsOf (number VersionMinor b))
 
 -- what is read of a header that is accepted: that of its block, and the bytes between as padding
 module _ (s : List ℕ) {n e : ℕ} (p : judged s ≡ Whole n e) where
@@ -40,14 +49,32 @@ module _ (s : List ℕ) {n e : ℕ} (p : judged s ≡ Whole n e) where
   unfolding paddingOf paddingBy
   padding-whole = ap (λ (a : HeaderAnswer). paddingBy a s) p
 
-  -- its version and its header-size field are those of the bytes
+  -- the fields of its block are those of the bytes, and so are its version and its header-size field
+  pub number-block : (f : Field) → place f + width f ≤ n → number f (take n s) ≡ number f s
+  number-block f h = num-take (width f) (place f) s n h
+
+  pub block-of : Block (take n s)
+  block-of =
+      let a = accepted s p in
+      let w = within s p in
+      let minors = number-block VersionMinor (omega (arith, w .0)) in
+      record {
+        signature = part-take n s 4 0 (omega (arith, w .0)) ∙ a .signature;
+        major = number-block VersionMajor (omega (arith, w .0)) ∙ a .major;
+        minor = rw minors (a .minor);
+        fills = length-take-le n s (omega (arith, w .1, w .2)) ∙ a .block ∙ ap (λ (m : ℕ). size (fieldsOf m)) (sym minors);
+      }
+
   pub version-read : readOf s .header .version ≡ versionOf s
   unfolding headerOf versionOf
-  version-read = ap (λ (r : HeaderRead). r .header .version) read-whole ∙ λ i. record { major = num-take 1 24 s n (omega (arith, within s p .0)) i; minor = num-take 1 25 s n (omega (arith, within s p .0)) i }
+  version-read =
+      let w = within s p in
+      ap (λ (r : HeaderRead). r .header .version) read-whole
+      ∙ λ i. record { major = number-block VersionMajor (omega (arith, w .0)) i; minor = number-block VersionMinor (omega (arith, w .0)) i }
 
   pub size-read : readOf s .header .«header_size» ≡ number HeaderSize s
   unfolding headerOf
-  size-read = ap (λ (r : HeaderRead). r .header .«header_size») read-whole ∙ num-take 2 94 s n (omega (arith, within s p .0))
+  size-read = ap (λ (r : HeaderRead). r .header .«header_size») read-whole ∙ number-block HeaderSize (omega (arith, within s p .0))
 
 -- a record length that is read is a number of two bytes, the default one too
 pub record-length-fits : (s : List ℕ) → Bytes s → readOf s .header .«point_data_record_length» ≤ 65535
@@ -57,6 +84,11 @@ record-length-fits s bytes = go (judged s)
     go : (a : HeaderAnswer) → readBy a s .header .«point_data_record_length» ≤ 65535
     go (Whole n e) = omega (arith, num-lt 2 (take n s) (place PointDataRecordLength) (bytes-take n s bytes))
     go (Refused r) = omega arith
+
+-- a version that is known has the size of its fields
+pub standard-is : (v : Version) → v .major ≡ 1 → v .minor < 5 → standardOf v ≡ Is (size (fieldsOf (v .minor)))
+unfolding standardOf
+standard-is v major minor = rw (eq-eqb _ _ major, lt-ltb _ _ minor)
 
 -- where the padding ends
 pub padded-field : (n field : ℕ) → n ≤ field → paddedTo n field ≡ field

@@ -1,13 +1,11 @@
 -- The header that a block of bytes holds, field by field: document 01, "Record layouts".
-use Prim.Native.Nat.{ℕ, zero, suc, _+_, _*_, _/_, _^_}
+use Prim.Native.Nat.{ℕ, _+_, _*_, _^_}
 use mathlib.Core.Bool.{false, cond}
 use mathlib.Core.List.{List, [], _∷_}
 use lib.Dec.{eqb, ltb}
 use lib.Ieee.{Float, ofBits, binary64}
 use lib.ListN.{replicate}
 use Rattle.le.specs.Le.{num}
-use Rattle.le.specs.Real.{f64Of}
-use Rattle.le.specs.declared.float.F64.{F64}
 use Rattle.refusal.specs.declared.Refusal.the-variants.{PointExtent}
 use Rattle.fields.specs.Table as fields
 use Rattle.header.specs.declared.Header.{Header}
@@ -19,25 +17,19 @@ use Rattle.header.specs.declared.OptionEvlr.{OptionEvlr}
 use Rattle.header.specs.declared.OptionEvlr.the-variants as pair
 use Rattle.header.specs.declared.EndOfPoints.{EndOfPoints}
 use Rattle.header.specs.declared.EndOfPoints.the-variants as end
-use Rattle.header.specs.Layout.{Field, FileSourceId, GlobalEncoding, Guid, VersionMajor, VersionMinor, SystemIdentifier, GeneratingSoftware, FileCreationDayOfYear, FileCreationYear, HeaderSize, OffsetToPointData, NumberOfVariableLengthRecords, PointDataRecordFormat, PointDataRecordLength, LegacyNumberOfPointRecords, LegacyNumberOfPointsByReturn, XScaleFactor, YScaleFactor, ZScaleFactor, XOffset, YOffset, ZOffset, MaxX, MinX, MaxY, MinY, MaxZ, MinZ, StartOfWaveformDataPacketRecord, StartOfFirstEvlr, NumberOfEvlrs, NumberOfPointRecords, NumberOfPointsByReturn, place, width, fields12, size}
+use Rattle.header.specs.Kinds.{Value, valueAt}
+use Rattle.header.specs.Layout.{Field, FileSourceId, GlobalEncoding, Guid, VersionMajor, VersionMinor, SystemIdentifier, GeneratingSoftware, FileCreationDayOfYear, FileCreationYear, HeaderSize, OffsetToPointData, NumberOfVariableLengthRecords, PointDataRecordFormat, PointDataRecordLength, LegacyNumberOfPointRecords, LegacyNumberOfPointsByReturn, XScaleFactor, YScaleFactor, ZScaleFactor, XOffset, YOffset, ZOffset, MaxX, MinX, MaxY, MinY, MaxZ, MinZ, StartOfWaveformDataPacketRecord, StartOfFirstEvlr, NumberOfEvlrs, NumberOfPointRecords, NumberOfPointsByReturn, place, kind, width, fields12, size}
 
--- A field in a block of bytes: its bytes, the number they are, the numbers of w bytes that they are, the float they are.
+-- A field in a block of bytes: what it holds, and, of any kind, its bytes and the number that they are.
 -- What lies past the block's end counts as 0, so a field that the version lacks reads as 0.
+abbrev pub value : (f : Field) → List ℕ → Value (kind f)
+value f b = valueAt (kind f) (place f) b
+
 abbrev pub part : Field → List ℕ → List ℕ
 part f b = fields.part (width f) (place f) b
 
 abbrev pub number : Field → List ℕ → ℕ
 number f b = num (width f) (place f) b
-
-unfoldable pub nums : ℕ → ℕ → ℕ → List ℕ → List ℕ
-nums w zero at b = []
-nums w (suc n) at b = num w at b ∷ nums w n (at + w) b
-
-abbrev pub numbers : ℕ → Field → List ℕ → List ℕ
-numbers w f b = nums w (width f / w) (place f) b
-
-abbrev pub real : Field → List ℕ → F64
-real f b = f64Of (number f b)
 
 -- no waveform start is written as 0, and 0 reads as none
 unfoldable pub startOf : ℕ → OptionU64
@@ -53,56 +45,60 @@ evlrOf a n =
 unfoldable pub nansOf : List ℕ → Nans
 nansOf b =
     record {
-      «x_scale_factor» = real XScaleFactor b .nan;
-      «y_scale_factor» = real YScaleFactor b .nan;
-      «z_scale_factor» = real ZScaleFactor b .nan;
-      «x_offset» = real XOffset b .nan;
-      «y_offset» = real YOffset b .nan;
-      «z_offset» = real ZOffset b .nan;
-      «max_x» = real MaxX b .nan;
-      «min_x» = real MinX b .nan;
-      «max_y» = real MaxY b .nan;
-      «min_y» = real MinY b .nan;
-      «max_z» = real MaxZ b .nan;
-      «min_z» = real MinZ b .nan;
+      «x_scale_factor» = value XScaleFactor b .nan;
+      «y_scale_factor» = value YScaleFactor b .nan;
+      «z_scale_factor» = value ZScaleFactor b .nan;
+      «x_offset» = value XOffset b .nan;
+      «y_offset» = value YOffset b .nan;
+      «z_offset» = value ZOffset b .nan;
+      «max_x» = value MaxX b .nan;
+      «min_x» = value MinX b .nan;
+      «max_y» = value MaxY b .nan;
+      «min_y» = value MinY b .nan;
+      «max_z» = value MaxZ b .nan;
+      «min_z» = value MinZ b .nan;
     }
+
+-- the counts of version 1.4
+abbrev pub largeRead : List ℕ → LargeFile
+largeRead b = record { «number_of_point_records» = value NumberOfPointRecords b; «number_of_points_by_return» = value NumberOfPointsByReturn b }
 
 -- the header in the standard block of its version
 unfoldable pub headerOf : List ℕ → Header
 headerOf b =
     record {
-      «file_source_id» = number FileSourceId b;
-      «global_encoding» = number GlobalEncoding b;
-      guid = part Guid b;
-      version = record { major = number VersionMajor b; minor = number VersionMinor b };
-      «system_identifier» = part SystemIdentifier b;
-      «generating_software» = part GeneratingSoftware b;
-      «file_creation_day_of_year» = number FileCreationDayOfYear b;
-      «file_creation_year» = number FileCreationYear b;
-      «header_size» = number HeaderSize b;
-      «offset_to_point_data» = number OffsetToPointData b;
-      «number_of_variable_length_records» = number NumberOfVariableLengthRecords b;
-      «point_data_record_format» = number PointDataRecordFormat b;
-      «point_data_record_length» = number PointDataRecordLength b;
-      «number_of_point_records» = number LegacyNumberOfPointRecords b;
-      «number_of_points_by_return» = numbers 4 LegacyNumberOfPointsByReturn b;
-      «x_scale_factor» = real XScaleFactor b .value;
-      «y_scale_factor» = real YScaleFactor b .value;
-      «z_scale_factor» = real ZScaleFactor b .value;
-      «x_offset» = real XOffset b .value;
-      «y_offset» = real YOffset b .value;
-      «z_offset» = real ZOffset b .value;
-      «max_x» = real MaxX b .value;
-      «min_x» = real MinX b .value;
-      «max_y» = real MaxY b .value;
-      «min_y» = real MinY b .value;
-      «max_z» = real MaxZ b .value;
-      «min_z» = real MinZ b .value;
+      «file_source_id» = value FileSourceId b;
+      «global_encoding» = value GlobalEncoding b;
+      guid = value Guid b;
+      version = record { major = value VersionMajor b; minor = value VersionMinor b };
+      «system_identifier» = value SystemIdentifier b;
+      «generating_software» = value GeneratingSoftware b;
+      «file_creation_day_of_year» = value FileCreationDayOfYear b;
+      «file_creation_year» = value FileCreationYear b;
+      «header_size» = value HeaderSize b;
+      «offset_to_point_data» = value OffsetToPointData b;
+      «number_of_variable_length_records» = value NumberOfVariableLengthRecords b;
+      «point_data_record_format» = value PointDataRecordFormat b;
+      «point_data_record_length» = value PointDataRecordLength b;
+      «number_of_point_records» = value LegacyNumberOfPointRecords b;
+      «number_of_points_by_return» = value LegacyNumberOfPointsByReturn b;
+      «x_scale_factor» = value XScaleFactor b .value;
+      «y_scale_factor» = value YScaleFactor b .value;
+      «z_scale_factor» = value ZScaleFactor b .value;
+      «x_offset» = value XOffset b .value;
+      «y_offset» = value YOffset b .value;
+      «z_offset» = value ZOffset b .value;
+      «max_x» = value MaxX b .value;
+      «min_x» = value MinX b .value;
+      «max_y» = value MaxY b .value;
+      «min_y» = value MinY b .value;
+      «max_z» = value MaxZ b .value;
+      «min_z» = value MinZ b .value;
       nans = nansOf b;
-      «start_of_waveform_data_packet_record» = startOf (number StartOfWaveformDataPacketRecord b);
-      evlr = evlrOf (number StartOfFirstEvlr b) (number NumberOfEvlrs b);
-      «has_large_file» = eqb (number VersionMinor b) 4;
-      «large_file» = record { «number_of_point_records» = number NumberOfPointRecords b; «number_of_points_by_return» = numbers 8 NumberOfPointsByReturn b };
+      «start_of_waveform_data_packet_record» = startOf (value StartOfWaveformDataPacketRecord b);
+      evlr = evlrOf (value StartOfFirstEvlr b) (value NumberOfEvlrs b);
+      «has_large_file» = eqb (value VersionMinor b) 4;
+      «large_file» = largeRead b;
     }
 
 -- the four bytes `LASF`

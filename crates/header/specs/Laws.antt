@@ -53,14 +53,18 @@ pub record Accepted (s : List ℕ) (n e : ℕ) : Type 0 where
   pub holds-field : number HeaderSize s ≤ length s
   pub end : e ≡ paddedTo n (number HeaderSize s)
 
+-- what holds of the fields of each version holds of those of this one
+pub by-version : (P : List Field → Type 0) (m : ℕ) → (m < 3 → P fields12) → (m ≡ 3 → P fields13) → (4 ≤ m → P fields14) → P (fieldsOf m)
+by-version P m p q r = go (ltb m 3) (ltb m 4) refl refl
+  where
+    go : (x y : Bool) → ltb m 3 ≡ x → ltb m 4 ≡ y → P (cond x fields12 (cond y fields13 fields14))
+    go true y e f = p (ltb-true m 3 e)
+    go false true e f = q (omega (arith, ltb-false m 3 e, ltb-true m 4 f))
+    go false false e f = r (ltb-false m 4 f)
+
 -- a block has at least the bytes of version 1.0, and its header-size field is within them
 pub size-least : (m : ℕ) → 227 ≤ size (fieldsOf m)
-size-least m = go (ltb m 3) (ltb m 4)
-  where
-    go : (a b : Bool) → 227 ≤ size (cond a fields12 (cond b fields13 fields14))
-    go true b = omega arith
-    go false true = omega arith
-    go false false = omega arith
+size-least m = by-version (λ fs. 227 ≤ size fs) m (λ h. omega arith) (λ h. omega arith) (λ h. omega arith)
 
 -- where a chain of tests answers whole, a test that would refuse has failed
 module _ (n e : ℕ) (b : Bool) (r : Refusal) (a : HeaderAnswer) where

@@ -4,6 +4,7 @@ use mathlib.Core.Bool.{cond}
 use mathlib.Core.List.{List, [], _∷_, _++_}
 use lib.Dec.{ltb}
 use Rattle.fields.specs.Table.{total}
+use Rattle.header.specs.Kinds.{Kind, Number, Text, Real, Numbers, widthOf}
 
 pub data Field : Type 0 where
   FileSignature FileSourceId GlobalEncoding Guid VersionMajor VersionMinor SystemIdentifier GeneratingSoftware : Field
@@ -12,48 +13,51 @@ pub data Field : Type 0 where
   XScaleFactor YScaleFactor ZScaleFactor XOffset YOffset ZOffset MaxX MinX MaxY MinY MaxZ MinZ : Field
   StartOfWaveformDataPacketRecord StartOfFirstEvlr NumberOfEvlrs NumberOfPointRecords NumberOfPointsByReturn : Field
 
--- each field's first byte and its number of bytes
-abbrev pub span : Field → ℕ × ℕ
-span FileSignature = (0, 4)
-span FileSourceId = (4, 2)
-span GlobalEncoding = (6, 2)
-span Guid = (8, 16)
-span VersionMajor = (24, 1)
-span VersionMinor = (25, 1)
-span SystemIdentifier = (26, 32)
-span GeneratingSoftware = (58, 32)
-span FileCreationDayOfYear = (90, 2)
-span FileCreationYear = (92, 2)
-span HeaderSize = (94, 2)
-span OffsetToPointData = (96, 4)
-span NumberOfVariableLengthRecords = (100, 4)
-span PointDataRecordFormat = (104, 1)
-span PointDataRecordLength = (105, 2)
-span LegacyNumberOfPointRecords = (107, 4)
-span LegacyNumberOfPointsByReturn = (111, 20)
-span XScaleFactor = (131, 8)
-span YScaleFactor = (139, 8)
-span ZScaleFactor = (147, 8)
-span XOffset = (155, 8)
-span YOffset = (163, 8)
-span ZOffset = (171, 8)
-span MaxX = (179, 8)
-span MinX = (187, 8)
-span MaxY = (195, 8)
-span MinY = (203, 8)
-span MaxZ = (211, 8)
-span MinZ = (219, 8)
-span StartOfWaveformDataPacketRecord = (227, 8)
-span StartOfFirstEvlr = (235, 8)
-span NumberOfEvlrs = (243, 4)
-span NumberOfPointRecords = (247, 8)
-span NumberOfPointsByReturn = (255, 120)
+-- each field's first byte, and what stands there
+abbrev pub span : Field → ℕ × Kind
+span FileSignature = (0, Text 4)
+span FileSourceId = (4, Number 2)
+span GlobalEncoding = (6, Number 2)
+span Guid = (8, Text 16)
+span VersionMajor = (24, Number 1)
+span VersionMinor = (25, Number 1)
+span SystemIdentifier = (26, Text 32)
+span GeneratingSoftware = (58, Text 32)
+span FileCreationDayOfYear = (90, Number 2)
+span FileCreationYear = (92, Number 2)
+span HeaderSize = (94, Number 2)
+span OffsetToPointData = (96, Number 4)
+span NumberOfVariableLengthRecords = (100, Number 4)
+span PointDataRecordFormat = (104, Number 1)
+span PointDataRecordLength = (105, Number 2)
+span LegacyNumberOfPointRecords = (107, Number 4)
+span LegacyNumberOfPointsByReturn = (111, Numbers 5 4)
+span XScaleFactor = (131, Real)
+span YScaleFactor = (139, Real)
+span ZScaleFactor = (147, Real)
+span XOffset = (155, Real)
+span YOffset = (163, Real)
+span ZOffset = (171, Real)
+span MaxX = (179, Real)
+span MinX = (187, Real)
+span MaxY = (195, Real)
+span MinY = (203, Real)
+span MaxZ = (211, Real)
+span MinZ = (219, Real)
+span StartOfWaveformDataPacketRecord = (227, Number 8)
+span StartOfFirstEvlr = (235, Number 8)
+span NumberOfEvlrs = (243, Number 4)
+span NumberOfPointRecords = (247, Number 8)
+span NumberOfPointsByReturn = (255, Numbers 15 8)
 
 abbrev pub place : Field → ℕ
 place f = span f .0
 
+abbrev pub kind : Field → Kind
+kind f = span f .1
+
 abbrev pub width : Field → ℕ
-width f = span f .1
+width f = widthOf (kind f)
 
 -- what versions 1.0 to 1.2 have, in order: where the file comes from, what it holds, how its points are
 -- scaled, and where they lie

@@ -3,7 +3,7 @@ ghost use mathlib.Core.Path.{_≡_};
 ghost use Prim.Native.Nat.{_≤_};
 ghost use lib.ListN.{length};
 ghost use Rattle.header.specs.Layout.{FileSignature, LegacyNumberOfPointsByReturn, NumberOfPointsByReturn};
-ghost use Rattle.header.specs.Header.{part, numbers, startOf, evlrOf, nansOf, headerOf, lasf, defaultHeader, pointsOf, endOf, endOfPoints};
+ghost use Rattle.header.specs.Header.{part, value, startOf, evlrOf, nansOf, headerOf, lasf, defaultHeader, pointsOf, endOf, endOfPoints};
 ghost use Rattle.header.specs.Judged.{eqList, standardOf, sized, versioned, judged, readOf, paddingOf};
 use refusal::Refusal;
 
@@ -379,7 +379,7 @@ fn no_nans() -> Nans
 
 // The legacy counts by return.
 fn by_return(b: &[u8]) -> [u32; 5]
-    ensures { λ r. ⌜ r ≡ numbers 4 LegacyNumberOfPointsByReturn (now (b .entry)) ⌝ }
+    ensures { λ r. ⌜ r ≡ value LegacyNumberOfPointsByReturn (now (b .entry)) ⌝ }
 {
     [
         le::u32_at(b, 111),
@@ -392,7 +392,7 @@ fn by_return(b: &[u8]) -> [u32; 5]
 
 // The counts by return of version 1.4.
 fn large_by_return(b: &[u8]) -> [u64; 15]
-    ensures { λ r. ⌜ r ≡ numbers 8 NumberOfPointsByReturn (now (b .entry)) ⌝ }
+    ensures { λ r. ⌜ r ≡ value NumberOfPointsByReturn (now (b .entry)) ⌝ }
 {
     [
         le::u64_at(b, 255),

@@ -1,9 +1,12 @@
+-- definitions
 pub mod Bytes
-pub mod Table
 pub mod Wrote
+pub mod Readable
+-- laws
+pub mod Table
 pub mod Back
 pub mod Round
-pub mod Again
-pub mod Readable
+pub mod Reads
 pub mod Reread
+-- theorems
 pub mod Theorems

@@ -9,14 +9,14 @@ use lib.ListN.{length, take, drop, replicate, length-drop}
 use borrow.Author.Tests.{le-leb}
 use lib.Seq.{length-take-le, take-add, take-append-le, drop-append-le}
 use Rattle.le.specs.Le.{Bytes}
-use Rattle.le.specs.Laws.{bytes-take, num-take}
+use Rattle.le.specs.Laws.{bytes-take}
 use Rattle.lent.specs.declared.Wrote.the-variants as wrote
 use Rattle.header.specs.declared.HeaderAnswer.the-variants.{Whole}
-use Rattle.header.specs.Layout.{FileSignature, VersionMinor, StartOfFirstEvlr, NumberOfEvlrs, size, fieldsOf}
-use Rattle.header.specs.Header.{part, number, lasf, headerOf}
-use Rattle.header.specs.Judged.{versionOf, judged, readBy, readOf, paddingBy, paddingOf}
-use Rattle.header.specs.Window.{part-take}
+use Rattle.header.specs.Layout.{VersionMinor, StartOfFirstEvlr, NumberOfEvlrs, size, fieldsOf}
+use Rattle.header.specs.Header.{number, headerOf}
+use Rattle.header.specs.Judged.{judged, readOf, paddingOf}
 use Rattle.header.specs.Laws.{accepted, within, standard-of}
+use Rattle.header.specs.Answers.{read-whole, padding-whole, version-read, number-block, block-of}
 use Rattle.header_write.specs.Bytes.{block}
 use Rattle.header_write.specs.Wrote.{wroteBy, wroteOf}
 use Rattle.header_write.specs.Back.{Paired, block-back, block-half}
@@ -30,30 +30,21 @@ cleared-then b p zeros h =
 module _ (s : List ℕ) (bytes : Bytes s) {n e : ℕ} (p : judged s ≡ Whole n e) where
   -- the numbers of the block are those of the list
   minor-same : number VersionMinor (take n s) ≡ number VersionMinor s
-  minor-same = num-take 1 25 s n (omega (arith, within s p .0))
+  minor-same = number-block s p VersionMinor (omega (arith, within s p .0))
 
   module _ (four : number VersionMinor s ≡ 4) where
     large : n ≡ 375
     large = accepted s p .block ∙ ap (λ (k : ℕ). size (fieldsOf k)) four
 
     start-same : number StartOfFirstEvlr (take n s) ≡ number StartOfFirstEvlr s
-    start-same = num-take 8 235 s n (omega (arith, large))
+    start-same = number-block s p StartOfFirstEvlr (omega (arith, large))
 
     count-same : number NumberOfEvlrs (take n s) ≡ number NumberOfEvlrs s
-    count-same = num-take 4 243 s n (omega (arith, large))
-
-  signed : part FileSignature (take n s) ≡ lasf
-  signed = part-take n s 4 0 (omega (arith, within s p .0)) ∙ accepted s p .signature
-
-  sized : length (take n s) ≡ size (fieldsOf (number VersionMinor (take n s)))
-  sized =
-      length-take-le n s (omega (arith, within s p .1, within s p .2))
-      ∙ accepted s p .block ∙ ap (λ (k : ℕ). size (fieldsOf k)) (sym minor-same)
+    count-same = number-block s p NumberOfEvlrs (omega (arith, large))
 
   -- what is written back is the block and the padding
   read-back : {b : List ℕ} → block (headerOf (take n s)) ≡ b → block (readOf s .header) ++ paddingOf s ≡ b ++ take (e - n) (drop n s)
-  unfolding readOf readBy paddingOf paddingBy
-  read-back q = rw (p, q)
+  read-back q = rw (read-whole s p, padding-whole s p, q)
 
   whole-list : take n s ++ take (e - n) (drop n s) ≡ take e s
   whole-list = sym (take-add n (e - n) s) ∙ ap (λ (k : ℕ). take k s) (add-sub-of-le (within s p .1))
@@ -61,7 +52,7 @@ module _ (s : List ℕ) (bytes : Bytes s) {n e : ℕ} (p : judged s ≡ Whole n 
   pub same-bytes : (number VersionMinor s ≡ 4 → Paired (number StartOfFirstEvlr s) (number NumberOfEvlrs s)) → block (readOf s .header) ++ paddingOf s ≡ take e s
   same-bytes paired =
       read-back
-      (block-back (take n s) (bytes-take n s bytes) signed (rw minor-same (accepted s p .minor)) sized
+      (block-back (take n s) (bytes-take n s bytes) (block-of s p)
       (λ four. let f = sym minor-same ∙ four in rw (start-same f, count-same f) (paired f)))
       ∙ whole-list
 
@@ -70,21 +61,17 @@ module _ (s : List ℕ) (bytes : Bytes s) {n e : ℕ} (p : judged s ≡ Whole n 
       let long : 247 ≤ length (take n s) =
       omega (arith, large four, length-take-le n s (omega (arith, within s p .1, within s p .2))) in
       read-back
-      (block-half (take n s) (bytes-take n s bytes) signed (rw minor-same (accepted s p .minor)) sized (minor-same ∙ four)
+      (block-half (take n s) (bytes-take n s bytes) (block-of s p) (minor-same ∙ four)
       (rw (start-same four, count-same four) half))
       ∙ cleared-then (take n s) (take (e - n) (drop n s)) (replicate 12 0) long
       ∙ ap (λ (l : List ℕ). take 235 l ++ (replicate 12 0 ++ drop 247 l)) whole-list
 
   -- the answer and the buffer, where there is room
-  version-same : readOf s .header .version ≡ versionOf s
-  unfolding readOf readBy headerOf versionOf
-  version-same = rw p (λ i. record { major = num-take 1 24 s n (omega (arith, within s p .0)) i; minor = minor-same i })
-
   pub written-back : (d : List ℕ) {bs : List ℕ} → block (readOf s .header) ++ paddingOf s ≡ bs → e ≤ length d → wroteOf (readOf s .header) (paddingOf s) d ≡ (wrote.Bytes e, bs ++ drop e d)
-  unfolding wroteOf wroteBy paddingOf paddingBy
+  unfolding wroteOf wroteBy
   written-back d q room =
       let w = within s p in
       let pad : length (take (e - n) (drop n s)) ≡ e - n = length-take-le (e - n) (drop n s) (simp length-drop (omega (arith, w .1, w .2))) in
-      let wanted : n + length (paddingOf s) ≡ e = rw (p, pad) (add-sub-of-le (w .1)) in
+      let wanted : n + length (paddingOf s) ≡ e = rw (padding-whole s p, pad) (add-sub-of-le (w .1)) in
       let fits : n + length (paddingOf s) ≤ length d = omega arith in
-      rw (version-same, standard-of s p, le-leb _ _ fits, wanted, q)
+      rw (version-read s p, standard-of s p, le-leb _ _ fits, wanted, q)

@@ -1,5 +1,5 @@
 -- What reading and writing a header add up to.
-use Prim.Native.Nat.{ℕ, _+_, _≤_}
+use Prim.Native.Nat.{ℕ, _≤_}
 use mathlib.Core.Path.{_≡_}
 use mathlib.Core.Logic.{_⊎_}
 use mathlib.Core.List.{List, _++_}
@@ -16,6 +16,7 @@ use Rattle.header_write.specs.Wrote.{wroteOf}
 use Rattle.header_write.specs.Back.{Paired}
 use Rattle.header_write.specs.Round as round
 use Rattle.header_write.specs.Readable.{Readable}
+use Rattle.header_write.specs.Reads as reads
 use Rattle.header_write.specs.Reread as reread
 
 -- Demand 2, "Written back, it has the same bytes": of bytes that are accepted, the header that was read and its padding are
@@ -32,11 +33,10 @@ module _ (s : List ℕ) (bytes : Bytes s) {n e : ℕ} (p : judged s ≡ Whole n 
   pub written-back : (d : List ℕ) {bs : List ℕ} → block (readOf s .header) ++ paddingOf s ≡ bs → e ≤ length d → wroteOf (readOf s .header) (paddingOf s) d ≡ (wrote.Bytes e, bs ++ drop e d)
   written-back = round.written-back s bytes p
 
--- And back: a header that the reader could have answered, written with its padding in front of whatever else there is, is
--- read as it was, and so is the padding.
-module _ (h : Header) (padding : List ℕ) (r : Readable h padding) (rest : List ℕ) where
-  pub read-again : readOf ((block h ++ padding) ++ rest) ≡ (let n = size (fieldsOf (h .version .minor)) in record { answer = Whole n (n + length padding); header = h })
-  read-again = reread.read-again h padding r rest
+  -- What the reader answers is a header that bytes can hold, whatever they are.
+  pub readable : Readable (readOf s .header) (paddingOf s)
+  readable = reads.readable s bytes p
 
-  pub padding-again : paddingOf ((block h ++ padding) ++ rest) ≡ padding
-  padding-again = reread.padding-again h padding r rest
+-- And back: such a header, written with its padding, is read from what the writer leaves as it was, and so is the padding.
+pub read-again : (h : Header) (padding : List ℕ) → Readable h padding → (d d′ : List ℕ) {n : ℕ} → wroteOf h padding d ≡ (wrote.Bytes n, d′) → (readOf d′ ≡ record { answer = Whole (size (fieldsOf (h .version .minor))) n; header = h }) × (paddingOf d′ ≡ padding)
+read-again h padding r d d′ p = reread.written-again h padding r d d′ p

@@ -4,12 +4,14 @@ ghost use mathlib.Core.Path.{_≡_};
 ghost use Prim.Native.Nat.{_+_};
 ghost use lib.ListN.{length};
 ghost use lib.Seq.{sets};
-ghost use Rattle.header.specs.Layout.{LegacyNumberOfPointsByReturn, NumberOfPointsByReturn, place, origin, contents, scales, bounds, large, fieldsOf};
+ghost use Rattle.le.specs.Le.{bytes};
+ghost use Rattle.le.specs.Real.{f64BitsOf};
+ghost use Rattle.fields.specs.Table.{joined, Stored};
+ghost use Rattle.header.specs.Layout.{LegacyNumberOfPointsByReturn, NumberOfPointsByReturn, place, width, origin, contents, scales, bounds, large, fieldsOf};
 ghost use mathlib.Core.Bool.{cond};
 ghost use Rattle.header.specs.Header.{noLarge};
 ghost use Rattle.header.specs.Judged.{standardOf};
-ghost use Rattle.header_write.specs.Bytes.{many, realBytes, startBack, evlrBack};
-ghost use Rattle.header_write.specs.Table.{Stored};
+ghost use Rattle.header_write.specs.Bytes.{startBack, evlrBack, fieldBytes};
 ghost use Rattle.header_write.specs.Wrote.{wroteBy, wroteOf};
 use header::Evlr;
 use header::Header;
@@ -51,7 +53,7 @@ fn write_sized(h: Header, n: u16, padding: &[u8], dst: &mut [u8]) -> Wrote
 
 // Each field of the header's version at its place.
 fn write_block(h: Header, dst: &mut [u8])
-    ensures { λ _. ⌜ Stored h (now (dst .entry)) (fieldsOf (h .version .minor)) (now (dst .exit)) ⌝ }
+    ensures { λ _. ⌜ Stored width place (fieldBytes h) (now (dst .entry)) (fieldsOf (h .version .minor)) (now (dst .exit)) ⌝ }
 {
     let minor = h.version.minor;
     let start = h.start_of_waveform_data_packet_record;
@@ -71,7 +73,7 @@ fn write_block(h: Header, dst: &mut [u8])
 
 // Where the file comes from.
 fn write_origin(h: Header, dst: &mut [u8])
-    ensures { λ _. ⌜ Stored h (now (dst .entry)) origin (now (dst .exit)) ⌝ }
+    ensures { λ _. ⌜ Stored width place (fieldBytes h) (now (dst .entry)) origin (now (dst .exit)) ⌝ }
 {
     let guid = h.guid;
     let system_identifier = h.system_identifier;
@@ -88,7 +90,7 @@ fn write_origin(h: Header, dst: &mut [u8])
 
 // What the file holds.
 fn write_contents(h: Header, dst: &mut [u8])
-    ensures { λ _. ⌜ Stored h (now (dst .entry)) contents (now (dst .exit)) ⌝ }
+    ensures { λ _. ⌜ Stored width place (fieldBytes h) (now (dst .entry)) contents (now (dst .exit)) ⌝ }
 {
     let by_return = h.number_of_points_by_return;
     store::set_u16(dst, 90, h.file_creation_day_of_year);
@@ -104,7 +106,7 @@ fn write_contents(h: Header, dst: &mut [u8])
 
 // How the points are scaled.
 fn write_scales(h: Header, dst: &mut [u8])
-    ensures { λ _. ⌜ Stored h (now (dst .entry)) scales (now (dst .exit)) ⌝ }
+    ensures { λ _. ⌜ Stored width place (fieldBytes h) (now (dst .entry)) scales (now (dst .exit)) ⌝ }
 {
     let nans = h.nans;
     set_f64(dst, 131, h.x_scale_factor, nans.x_scale_factor);
@@ -117,7 +119,7 @@ fn write_scales(h: Header, dst: &mut [u8])
 
 // Where the points lie.
 fn write_bounds(h: Header, dst: &mut [u8])
-    ensures { λ _. ⌜ Stored h (now (dst .entry)) bounds (now (dst .exit)) ⌝ }
+    ensures { λ _. ⌜ Stored width place (fieldBytes h) (now (dst .entry)) bounds (now (dst .exit)) ⌝ }
 {
     let nans = h.nans;
     set_f64(dst, 179, h.max_x, nans.max_x);
@@ -130,7 +132,7 @@ fn write_bounds(h: Header, dst: &mut [u8])
 
 // What only version 1.4 has.
 fn write_large(h: Header, dst: &mut [u8])
-    ensures { λ _. ⌜ Stored h (now (dst .entry)) large (now (dst .exit)) ⌝ }
+    ensures { λ _. ⌜ Stored width place (fieldBytes h) (now (dst .entry)) large (now (dst .exit)) ⌝ }
 {
     let pair = h.evlr;
     let evlr = evlr_back(pair);
@@ -195,14 +197,14 @@ fn set_32(d: &mut [u8], at: usize, v: [u8; 32])
 
 // Stores a float by its pattern, from its value and what is kept beside it.
 fn set_f64(d: &mut [u8], at: usize, value: f64, nan: u64)
-    ensures { λ _. ⌜ now (d .exit) ≡ sets (now (d .entry)) at (realBytes value nan) ⌝ }
+    ensures { λ _. ⌜ now (d .exit) ≡ sets (now (d .entry)) at (bytes 8 (f64BitsOf (record { value = value; nan = nan }))) ⌝ }
 {
     store::set_u64(d, at, float::f64_bits(F64 { value, nan }))
 }
 
 // Stores the legacy counts by return, and tells how many there are.
 fn set_by_return(d: &mut [u8], xs: [u32; 5])
-    ensures { λ _. ⌜ (now (d .exit) ≡ sets (now (d .entry)) (place LegacyNumberOfPointsByReturn) (many 4 xs)) × (length xs ≡ 5) ⌝ }
+    ensures { λ _. ⌜ (now (d .exit) ≡ sets (now (d .entry)) (place LegacyNumberOfPointsByReturn) (joined (bytes 4) xs)) × (length xs ≡ 5) ⌝ }
 {
     for i in 0..5 {
         store::set_u32(d, 111 + 4 * i, xs[i]);
@@ -211,7 +213,7 @@ fn set_by_return(d: &mut [u8], xs: [u32; 5])
 
 // Stores the counts by return of version 1.4, and tells how many there are.
 fn set_large_by_return(d: &mut [u8], xs: [u64; 15])
-    ensures { λ _. ⌜ (now (d .exit) ≡ sets (now (d .entry)) (place NumberOfPointsByReturn) (many 8 xs)) × (length xs ≡ 15) ⌝ }
+    ensures { λ _. ⌜ (now (d .exit) ≡ sets (now (d .entry)) (place NumberOfPointsByReturn) (joined (bytes 8) xs)) × (length xs ≡ 15) ⌝ }
 {
     for i in 0..15 {
         store::set_u64(d, 255 + 8 * i, xs[i]);

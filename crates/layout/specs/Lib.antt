@@ -1,4 +1,6 @@
+-- definitions
 pub mod Layout
-pub mod Following
+-- laws
 pub mod Placed
+-- theorems
 pub mod Theorems

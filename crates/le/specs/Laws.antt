@@ -34,6 +34,9 @@ pub num-byte : (s : List ℕ) (at x : ℕ) → take 1 (drop at s) ≡ x ∷ [] �
 unfolding num le
 num-byte s at x e = omega (arith, sym (getD-take 1 (drop at s) 0 0 (omega arith)) ∙ ap (λ (l : List ℕ). getD l 0 0) e)
 
+pub one-byte : (x : ℕ) → x < 256 → x ∷ [] ≡ bytes 1 x
+one-byte x h = let e : x ≡ x % 256 = omega arith in ap (λ (n : ℕ). n ∷ []) e
+
 -- a part of bytes is bytes
 pub bytes-take : (n : ℕ) (s : List ℕ) → Bytes s → Bytes (take n s)
 bytes-take zero s b k = omega arith

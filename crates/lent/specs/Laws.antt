@@ -1,5 +1,6 @@
 -- Laws of writes to the front of a lent slice and of a lent tail, cited wherever one record is written after another.
-use mathlib.Core.Path.{_≡_, ap, sym, _∙_}
+use mathlib.Core.Path.{_≡_, refl, ap, sym, _∙_}
+use mathlib.Core.Bool.{Bool, true, false, cond}
 use mathlib.Core.List.{List, [], _∷_, _++_, append-assoc, append-nil}
 use Prim.Native.Nat.{ℕ, zero, suc, _+_, _-_, _*_, _≤_, _<_}
 use native.Mathlib.Omega.{arith}
@@ -7,6 +8,7 @@ use native.Mathlib.Nat.{add-zero, zero-add, add-suc, suc-add, suc-mul}
 use borrow.Author.Tests.{le-leb, lt-leb}
 use lib.ListN.{length, set, take, drop, length-append, length-take, length-drop, drop-of-length-le}
 use lib.Seq.{sets, sets-eq, length-sets, take-all, drop-drop}
+use Rattle.refusal.specs.declared.Refusal.{Refusal}
 use Rattle.refusal.specs.declared.Refusal.the-variants.{NoRoom}
 use Rattle.lent.specs.declared.Wrote.{Wrote}
 use Rattle.lent.specs.declared.Wrote.the-variants.{Bytes, Refused}
@@ -23,6 +25,24 @@ front bs d h = simp (le-leb _ _ h)
 
 pub no-front : (bs d : List ℕ) → length d < length bs → frontOf bs d ≡ (Refused (NoRoom (length bs)), d)
 no-front bs d h = simp (lt-leb _ _ h)
+
+-- a refusal is no answer
+pub no-answer : {x : Refusal} {n : ℕ} {d d′ : List ℕ} → _≡_ {A = Wrote × List ℕ} (Refused x, d) (Bytes n, d′) → ⊥
+no-answer {x} {n} p =
+    let q : Refused x ≡ Bytes n = ap (λ (w : Wrote × List ℕ). w .0) p in
+    let z : _≡_ {A = ℕ} 0 1 = cc in
+    omega arith
+
+-- so where a count is answered a test that would refuse was passed
+pub passed : (b : Bool) (w : Wrote × List ℕ) (x : Refusal) (d : List ℕ) {n : ℕ} {d′ : List ℕ} → cond b w (Refused x, d) ≡ (Bytes n, d′) → (b ≡ true) × (w ≡ (Bytes n, d′))
+passed true w x d p = (refl, p)
+passed false w x d p = absurd (no-answer p)
+
+-- and the count and what is left are those of the write
+pub answered : {m n : ℕ} {e d′ : List ℕ} → _≡_ {A = Wrote × List ℕ} (Bytes m, e) (Bytes n, d′) → (n ≡ m) × (d′ ≡ e)
+answered {m} {n} p =
+    let q : Bytes m ≡ Bytes n = ap (λ (w : Wrote × List ℕ). w .0) p in
+    (cc, sym (ap (λ (w : Wrote × List ℕ). w .1) p))
 
 -- the whole, where its tail from `at` on was lent to a write of `bs` and is back
 pub tail : (d bs ys : List ℕ) (at : ℕ) (r : Wrote) → at + length bs ≤ length d → (r, ys) ≡ frontOf bs (take (length d - at) (drop at d)) → take at d ++ (ys ++ drop (length d - at) (drop at d)) ≡ sets d at bs

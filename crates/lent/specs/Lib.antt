@@ -1,3 +1,5 @@
+-- definitions
 pub mod Front
+-- laws
 pub mod Laws
 pub mod Records

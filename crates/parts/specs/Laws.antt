@@ -1,6 +1,6 @@
 -- What is filled is what the table's promise says.
 use Prim.Native.Nat.{ℕ, suc, _+_, _-_, _≤_, _<_}
-use mathlib.Core.Path.{_≡_, refl, ap, _∙_}
+use mathlib.Core.Path.{_≡_, refl, ap, sym, _∙_}
 use mathlib.Core.Bool.{Bool, true, false, cond}
 use mathlib.Core.List.{List, _∷_, _++_}
 use native.Mathlib.Nat.{zero-add}
@@ -19,9 +19,8 @@ use Rattle.cursor.specs.declared.Cursor.{Cursor}
 use Rattle.cursor.specs.declared.Started.{Started}
 use Rattle.cursor.specs.declared.Started.the-variants as started
 use Rattle.cursor.specs.Parts.{outlineIn, partsOf}
-use Rattle.cursor.specs.Cursor.{planOf, firstOf, startedBy, startedOf, leftOf}
-use Rattle.cursor.specs.Accepted.{laid}
-use Rattle.cursor.specs.Covers.{first-tells}
+use Rattle.cursor.specs.Cursor.{startedOf, leftOf}
+use Rattle.cursor.specs.Started.{started-at, started-refused}
 use Rattle.parts.specs.declared.Tabled.{Tabled}
 use Rattle.parts.specs.declared.Tabled.the-variants as tabled
 use Rattle.parts.specs.declared.Filling.{Filling}
@@ -76,10 +75,6 @@ module _ (s : List ℕ) where
           rw (le-leb (length ps) (length t) h)
           (ap (λ (qs : List Part). (tabled.Entries (length qs), sets t 0 (take (length qs) qs))) e ∙ ap (λ (l : List Part). (tabled.Entries (length ps), l)) (front t ps h))
 
-  is-by : (t ps : List Part) (c : Cursor) (x : Checked) → ((n : ℕ) → x ≡ checked.Accepted n → leftOf s c ≡ ps) → Left t (fillingBy (startedBy x c) s (length t)) ≡ tabledBy x ps t
-  is-by t ps c (checked.Accepted n) e = is-at t ps c n (e n refl)
-  is-by t ps c (checked.Refused r k n) e = refl
-
 module _ (allowance : ℕ) (s : List ℕ) where
   pub filling-fits : (room : ℕ) → Fits s room (fillingOf allowance s room)
   unfolding fillingOf
@@ -87,7 +82,12 @@ module _ (allowance : ℕ) (s : List ℕ) where
 
   -- the answer, and the table with these entries set, are the promise
   pub filling-is : (t : List Part) → Left s t (fillingOf allowance s (length t)) ≡ tabledOf allowance s t
-  unfolding fillingOf tabledOf startedOf
-  filling-is t =
-      let o = outlineIn s in
-      is-by s t (partsOf o s) (firstOf (planOf o)) (checkedOf allowance s) (λ n e. first-tells o s (laid allowance s e))
+  unfolding fillingOf tabledOf
+  filling-is t = go (startedOf allowance s) refl
+    where
+      ps : List Part
+      ps = partsOf (outlineIn s) s
+
+      go : (x : Started) → startedOf allowance s ≡ x → Left s t (fillingBy x s (length t)) ≡ tabledBy (checkedOf allowance s) ps t
+      go (started.At c) e = let a = started-at allowance s e in is-at s t ps c (a .0) (a .2) ∙ ap (λ (x : Checked). tabledBy x ps t) (sym (a .1))
+      go (started.Refused r k) e = ap (λ (x : Checked). tabledBy x ps t) (sym (started-refused allowance s e .1))

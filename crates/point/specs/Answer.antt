@@ -15,7 +15,7 @@ use Rattle.format.specs.declared.FormatLen.the-variants as len
 use Rattle.format.specs.declared.Field.the-variants.{ExtraBytes}
 use Rattle.format.specs.Fields.{placeOf, recordBytes, lenOf}
 use Rattle.format.specs.Length as format
-use Rattle.format.specs.Length.{Told, told, len-told, len-is, len-le}
+use Rattle.format.specs.Length.{Told, told, len-told, len-refused, len-is, len-le}
 use Rattle.format.specs.Laws.{record-end}
 use Rattle.point.specs.declared.Point.{Point}
 use Rattle.point.specs.declared.PointRead.{PointRead}
@@ -67,6 +67,15 @@ module _ (f : Format) (s : List ℕ) where
 
     pub extra-whole : extraOf f s ≡ fieldOf f ExtraBytes s
     extra-whole = answered (pointOf f s) read-whole .extra
+
+  -- an overlong format reads nothing
+  pub read-over : 65535 < recordBytes f → readOf f s ≡ Refused (RecordLength (recordBytes f))
+  unfolding readOf
+  read-over h = ap (readAfter f s) (len-refused f h)
+
+  pub extra-over : 65535 < recordBytes f → extraOf f s ≡ []
+  unfolding extraOf
+  extra-over h = ap (extraAfter f s) (len-refused f h)
 
   -- by what the length tells
   pub read-told : (n : ℕ) → lenOf f ≡ len.Is n → n ≤ length s → readOf f s ≡ Is (pointOf f s)

@@ -1,4 +1,6 @@
+-- definitions
 pub mod Read
+pub mod Marks
+-- laws
 pub mod Kind
 pub mod Answer
-pub mod Marks

@@ -64,7 +64,8 @@ pub fn legacy_core(point: Point, a: u8, b: u8) -> [u8; 20]
     let z = four_of_signed(point.z);
     let intensity = two_of(point.intensity);
     let scan_angle = point.scan_angle;
-    let angle = signed::bits8(scan_angle.to_rank());
+    let rank = signed::bits8(scan_angle.to_rank());
+    let user_data = point.user_data;
     let source = two_of(point.point_source_id);
     [
         x.a,
@@ -83,8 +84,8 @@ pub fn legacy_core(point: Point, a: u8, b: u8) -> [u8; 20]
         intensity.b,
         a,
         b,
-        angle,
-        point.user_data,
+        rank,
+        user_data,
         source.a,
         source.b,
     ]

@@ -1,6 +1,6 @@
 -- Field by field, what the reader finds is put back by the writer as the bytes it was found in.
 use Prim.Native.Nat.{ℕ, _+_, _%_, _≤_, _^_}
-use mathlib.Core.Path.{_≡_, refl, ap, _∙_}
+use mathlib.Core.Path.{_≡_, refl, ap, sym, _∙_}
 use mathlib.Core.Bool.{Bool, true, false, cond}
 use mathlib.Core.List.{List, [], _∷_, _++_}
 use native.Mathlib.Omega.{arith}
@@ -13,7 +13,7 @@ use mir.Val.{Fits, bits, ofZ, toZ}
 use mir.ValLaws.{ofZ-toZ}
 use Rattle.le.specs.Le.{num, bytes, Bytes}
 use Rattle.le.specs.Laws.{num-lt, bytes-num, span-num}
-use Rattle.le.specs.Real.{patternOf, f32Of, pattern-kept, f64-kept}
+use Rattle.le.specs.Real.{patternOf, f32Of, f32-kept, f32-bits-is, f64-kept}
 use Rattle.fields.specs.Laws.{joined-parts}
 use Rattle.format.specs.declared.Format.{Format}
 use Rattle.format.specs.declared.Field.{Field}
@@ -75,8 +75,7 @@ module _ (s : List ℕ) (all : Bytes s) where
   some-nir-back has at e h = rw e (nir-back (num 2 at s) ∙ bytes-num 2 at s all h)
 
   pub f32-back : (at : ℕ) → patternOf binary32 (f32Of (num 4 at s) .value) (f32Of (num 4 at s) .nan) ≡ num 4 at s
-  unfolding f32Of
-  f32-back at = pattern-kept binary32 (num 4 at s) (num-lt 4 s at all)
+  f32-back at = sym (f32-bits-is (f32Of (num 4 at s))) ∙ f32-kept (num 4 at s) (num-lt 4 s at all)
 
   pub waveform-back : (has : Bool) (at : ℕ) → has ≡ true → at + 29 ≤ length s → waveformBytes (maybeWaveformAt has at s) ≡ take 29 (drop at s)
   unfolding maybeWaveformAt waveformAt

@@ -1,12 +1,15 @@
+-- definitions
 pub mod Write
+pub mod Held
+-- laws
 pub mod Laws
 pub mod Taken
 pub mod Answered
 pub mod Back
-pub mod Past
-pub mod Held
 pub mod Found
 pub mod Again
-pub mod Accepted
-pub mod Theorems
+pub mod Past
 pub mod Octets
+pub mod Accepted
+-- theorems
+pub mod Theorems

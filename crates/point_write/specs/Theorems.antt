@@ -14,7 +14,7 @@ use Rattle.point.specs.Read.{fieldOf, pointOf, readOf, extraOf}
 use Rattle.point_write.specs.Write.{recordOf, writtenOf}
 use Rattle.point_write.specs.Back.{record-back}
 use Rattle.point_write.specs.Answered.{Answered, answered, answered-written}
-use Rattle.point_write.specs.Past.{point-take, read-take, extra-take}
+use Rattle.point_write.specs.Past.{point-take, read-take}
 use Rattle.point_write.specs.Held.{Held}
 use Rattle.point_write.specs.Found.{point-found}
 use Rattle.point_write.specs.Again.{point-again, extra-again}
@@ -33,18 +33,18 @@ module _ (f : Format) (s : List ℕ) where
       ∙ ap (λ (l : List ℕ). (wrote.Bytes (recordBytes f), l ++ drop (recordBytes f) d)) (read-then-written all (a .room))
 
   -- "The reader never looks past the record's length", for the point, for a read with its refusals and for the extra bytes.
-  pub never-past : (n : ℕ) → recordBytes f ≤ n → pointOf f (take n s) ≡ pointOf f s
+  pub never-past : Bytes s → (n : ℕ) → recordBytes f ≤ n → pointOf f (take n s) ≡ pointOf f s
   never-past = point-take f s
 
-  pub read-never-past : readOf f (take (recordBytes f) s) ≡ readOf f s
-  read-never-past = read-take f s
+  pub read-never-past : Bytes s → readOf f (take (recordBytes f) s) ≡ readOf f s
+  read-never-past all = read-take f s all .0
 
-  pub extra-never-past : extraOf f (take (recordBytes f) s) ≡ extraOf f s
-  extra-never-past = extra-take f s
+  pub extra-never-past : Bytes s → extraOf f (take (recordBytes f) s) ≡ extraOf f s
+  extra-never-past all = read-take f s all .1
 
 -- So lists that agree on the record's bytes read alike.
-pub read-alike : (f : Format) (s t : List ℕ) → take (recordBytes f) s ≡ take (recordBytes f) t → readOf f s ≡ readOf f t
-read-alike f s t e = sym (read-never-past f s) ∙ ap (readOf f) e ∙ read-never-past f t
+pub read-alike : (f : Format) (s t : List ℕ) → Bytes s → Bytes t → take (recordBytes f) s ≡ take (recordBytes f) t → readOf f s ≡ readOf f t
+read-alike f s t one other e = sym (read-never-past f s one) ∙ ap (readOf f) e ∙ read-never-past f t other
 
 -- Every point that is read is one that the format can hold, so the next holds of it.
 pub read-is-held : (f : Format) (s : List ℕ) → Bytes s → recordBytes f ≤ length s → Held f (pointOf f s) (fieldOf f ExtraBytes s)

@@ -21,7 +21,7 @@ use Rattle.cursor.specs.Cursor.{stepOf, leftOf, toldBy}
 use Rattle.cursor.specs.Laws.{left-step}
 use Rattle.rewrite.specs.Back.{pointBack, pointsBack, partBack}
 use Rattle.rewrite.specs.Rewritten.{backOf}
-use Rattle.rewrite.specs.Asked.{PointPart, PartIs, At}
+use Rattle.rewrite.specs.Asked.{PartIs, IsWhole}
 use Rattle.rewrite.specs.Whole.{length-part, length-back}
 use Rattle.rewrite.specs.Laws.{point-same}
 
@@ -44,27 +44,24 @@ points-turn f m long s bytes at left more ends d ys room laid all =
         rw (e, one, size, drop-drop m at s)
 
 -- a part of the file, as it is cut and laid
-module _ (o : Outline) (s : List ℕ) (bytes : Bytes s) (at : ℕ) (p : Part) (a : At o s at p) where
+module _ (o : Outline) (s : List ℕ) (bytes : Bytes s) (p : Part) (ends : p .start + p .length ≤ length s) (whole : IsWhole o s p) where
   abbrev cut : List ℕ
-  cut = take (p .start + p .length - p .start) (drop (p .start) s)
+  cut = between (p .start) (p .start + p .length) s
 
   cut-is : cut ≡ bytesOf s p
   cut-is = let e : p .start + p .length - p .start ≡ p .length = omega arith in rw e
 
   pub cut-length : length cut ≡ p .length
-  cut-length = ap length cut-is ∙ length-part o s bytes at p a
+  cut-length = ap length cut-is ∙ length-part o s bytes p ends
 
   pub cut-whole : PartIs o (p .kind) cut
-  cut-whole = rw cut-is (a .whole)
+  cut-whole = rw cut-is whole
 
-  pub part-turn : (ps : List Part) (d ys : List ℕ) {w : List ℕ} → length s ≤ length d → ys ≡ partBack o (p .kind) cut ++ drop (length cut) (take (length d - p .start) (drop (p .start) d)) → sets d at (backOf o s (p ∷ ps)) ≡ w → (length (take (p .start) d ++ (ys ++ drop (length d - p .start) (drop (p .start) d))) ≡ length d) × (sets (take (p .start) d ++ (ys ++ drop (length d - p .start) (drop (p .start) d))) (at + p .length) (backOf o s ps) ≡ w)
+  pub part-turn : (at : ℕ) → p .start ≡ at → (ps : List Part) (d ys : List ℕ) {w : List ℕ} → length s ≤ length d → ys ≡ partBack o (p .kind) cut ++ drop (length cut) (between (p .start) (length d) d) → sets d at (backOf o s (p ∷ ps)) ≡ w → (length (take (p .start) d ++ (ys ++ drop (length d - p .start) (drop (p .start) d))) ≡ length d) × (sets (take (p .start) d ++ (ys ++ drop (length d - p .start) (drop (p .start) d))) (at + p .length) (backOf o s ps) ≡ w)
   unfolding backOf
-  part-turn ps d ys room laid all =
-      let back = partBack o (p .kind) (bytesOf s p) in
-      let fits : p .start + p .length ≤ length d = omega (arith, a .start, a .ends) in
-      let here = ap (λ (k : ℕ). sets d k (back ++ backOf o s ps)) (a .start) ∙ all in
-      let t = laid-turn d back (backOf o s ps) ys (p .start) (p .length) (length-back o s bytes at p a) fits (rw (cut-length, cut-is) at laid) here in
-      (t .0, ap (λ (k : ℕ). sets (take (p .start) d ++ (ys ++ drop (length d - p .start) (drop (p .start) d))) (k + p .length) (backOf o s ps)) (sym (a .start)) ∙ t .1)
+  part-turn at start ps d ys room laid all =
+      rw (← start)
+      (laid-turn d (partBack o (p .kind) (bytesOf s p)) (backOf o s ps) ys (p .start) (p .length) (length-back o s bytes p ends whole) (omega arith) (rw (cut-length, cut-is) at laid) (rw (← start) at all))
 
 not-not : (b : Bool) → not (not b) ≡ b
 not-not true = refl

@@ -1,8 +1,8 @@
 -- What the private steps ask of the bytes that they are given: each is a whole part of its kind.
-use Prim.Native.Nat.{ℕ, _+_, _*_, _≤_}
+use Prim.Native.Nat.{ℕ, _*_}
 use mathlib.Core.Path.{_≡_}
 use mathlib.Core.Bool.{Bool, true, false}
-use mathlib.Core.List.{List, [], _∷_}
+use mathlib.Core.List.{List}
 use lib.ListN.{length}
 use Rattle.format.specs.declared.Format.{Format}
 use Rattle.format.specs.declared.FormatLen.the-variants.{Is}
@@ -16,7 +16,7 @@ use Rattle.file.specs.Points.{pointFormat}
 use Rattle.cursor.specs.declared.Part.{Part}
 use Rattle.cursor.specs.declared.Kind.{Kind}
 use Rattle.cursor.specs.declared.Kind.the-variants.{Header, Vlr, Gap, Points, Evlr}
-use Rattle.cursor.specs.Parts.{bytesOf}
+use Rattle.cursor.specs.Parts.{Covers, Each, bytesOf}
 
 -- a header with its padding; a VLR or an EVLR with its data
 abbrev pub HeaderPart : List ℕ → Type 0
@@ -40,13 +40,10 @@ PartIs o Gap s = Unit
 PartIs o Points s = PointsPart (pointFormat o) (o .«point_data_record_length») (o .«number_of_point_records») s
 PartIs o Evlr s = VlrPart true s
 
--- a part that begins at a place, ends in the file, and is whole
-pub record At (o : Outline) (s : List ℕ) (at : ℕ) (p : Part) : Type 0 where
-  pub start : p .start ≡ at
-  pub ends : at + p .length ≤ length s
-  pub whole : PartIs o (p .kind) (bytesOf s p)
+-- a part that is one of its kind
+abbrev pub IsWhole : Outline → List ℕ → Part → Type 0
+IsWhole o s p = PartIs o (p .kind) (bytesOf s p)
 
--- parts from one place to another, each beginning where the one before it ends
-abbrev pub Tiles : Outline → List ℕ → ℕ → List Part → ℕ → Type 0
-Tiles o s at [] end = at ≡ end
-Tiles o s at (p ∷ ps) end = At o s at p × Tiles o s (at + p .length) ps end
+-- parts that cover the file from a place on, each whole
+abbrev pub Tiles : Outline → List ℕ → ℕ → List Part → Type 0
+Tiles o s at ps = Covers at (length s) ps × Each (IsWhole o s) ps

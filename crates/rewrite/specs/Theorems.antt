@@ -20,14 +20,15 @@ use Rattle.rules.specs.declared.Checked.the-variants as checked
 use Rattle.file.specs.Rules.{checkedOf}
 use Rattle.file.specs.Theorems.{accepted-holds}
 use Rattle.cursor.specs.declared.Part.{Part}
-use Rattle.cursor.specs.Parts.{outlineIn, partsOf, bytesOf}
+use Rattle.cursor.specs.Parts.{outlineIn, bodyOf, partsOf, bytesOf}
+use Rattle.cursor.specs.Each.{header-first}
 use Rattle.rewrite.specs.declared.Rewrote.the-variants as rewrote
 use Rattle.rewrite.specs.Back.{partBack}
 use Rattle.rewrite.specs.Pair.{written, paired-same, zero-cleared}
 use Rattle.rewrite.specs.Rewritten.{backOf, rewrittenOf}
 use Rattle.rewrite.specs.Asked.{Tiles}
-use Rattle.rewrite.specs.Whole.{length-back, length-tiles, whole-same}
-use Rattle.rewrite.specs.Sound.{header-whole, file-tiles, header-first}
+use Rattle.rewrite.specs.Whole.{first-ends, length-back, length-tiles, whole-same}
+use Rattle.rewrite.specs.Sound.{header-whole, file-tiles, no-header-after}
 
 -- "22, after the file check": what the check refuses is refused so, and then a destination shorter than the file; both leave it.
 module _ (allowance : ℕ) (s d : List ℕ) where
@@ -45,20 +46,20 @@ Stands r o s [] = Unit
 Stands r o s (p ∷ ps) = (bytesOf r p ≡ partBack o (p .kind) (bytesOf s p)) × Stands r o s ps
 
 -- parts that are laid one after the other stand in their places
-laid-stand : (o : Outline) (s : List ℕ) → Bytes s → (before after : List ℕ) (at end : ℕ) (ps : List Part) → length before ≡ at → Tiles o s at ps end → Stands (before ++ (backOf o s ps ++ after)) o s ps
+laid-stand : (o : Outline) (s : List ℕ) → Bytes s → (before after : List ℕ) (at : ℕ) (ps : List Part) → length before ≡ at → Tiles o s at ps → Stands (before ++ (backOf o s ps ++ after)) o s ps
 unfolding backOf
-laid-stand o s bytes before after at end [] long t = tt
-laid-stand o s bytes before after at end (p ∷ ps) long (a, t) =
+laid-stand o s bytes before after at [] long t = tt
+laid-stand o s bytes before after at (p ∷ ps) long ((start, c), (whole, w)) =
     let back = partBack o (p .kind) (bytesOf s p) in
-    let size : length back ≡ p .length = length-back o s bytes at p a in
+    let size : length back ≡ p .length = length-back o s bytes p (first-ends o s bytes at p ps (start, c)) whole in
     let all = before ++ ((back ++ backOf o s ps) ++ after) in
     let here : bytesOf all p ≡ back =
-    ap (λ (k : ℕ). take (p .length) (drop k all)) (a .start)
+    ap (λ (k : ℕ). take (p .length) (drop k all)) start
     ∙ ap (take (p .length)) (drop-at before ((back ++ backOf o s ps) ++ after) at long ∙ append-assoc back (backOf o s ps) after)
     ∙ take-at back (backOf o s ps ++ after) (p .length) size in
     let next : length (before ++ back) ≡ at + p .length = rw (length-append, long, size) in
     let same : (before ++ back) ++ (backOf o s ps ++ after) ≡ all = rw (append-assoc before, append-assoc back) in
-    (here, subst (λ (l : List ℕ). Stands l o s ps) same (laid-stand o s bytes (before ++ back) after (at + p .length) end ps next t))
+    (here, subst (λ (l : List ℕ). Stands l o s ps) same (laid-stand o s bytes (before ++ back) after (at + p .length) ps next (c, w)))
 
 -- For an accepted file and a destination with room:
 module _ (allowance : ℕ) (s : List ℕ) (bytes : Bytes s) {n : ℕ} (p : checkedOf allowance s ≡ Accepted n) (d : List ℕ) (room : length s ≤ length d) where
@@ -72,17 +73,20 @@ module _ (allowance : ℕ) (s : List ℕ) (bytes : Bytes s) {n : ℕ} (p : check
   left = rw (p, le-leb (length s) (length d) room)
 
   begins : rewrittenOf allowance s d .1 ≡ written s ++ drop (length s) d
-  begins = left ∙ ap (λ (l : List ℕ). l ++ drop (length s) d) (whole-same (outlineIn s) s bytes (partsOf (outlineIn s) s) (file-tiles allowance s bytes p) (header-first s))
+  begins =
+      let tiles = rw header-first at (file-tiles allowance s p bytes) in
+      let same : backOf (outlineIn s) s (partsOf (outlineIn s) s) ≡ written s = rw header-first (whole-same (outlineIn s) s bytes (outlineIn s .«header_size») (bodyOf (outlineIn s) s) tiles (no-header-after allowance s p)) in
+      left ∙ ap (λ (l : List ℕ). l ++ drop (length s) d) same
 
   long : length (backOf (outlineIn s) s (partsOf (outlineIn s) s)) ≡ length s
-  long = omega (arith, length-tiles (outlineIn s) s bytes 0 (length s) (partsOf (outlineIn s) s) (file-tiles allowance s bytes p))
+  long = omega (arith, length-tiles (outlineIn s) s bytes 0 (partsOf (outlineIn s) s) (file-tiles allowance s p bytes))
 
   -- "the destination begins with the same bytes", where both or neither of the EVLR pair are zero, and in versions without one;
   pub same-bytes : (number VersionMinor s ≡ 4 → Paired (number StartOfFirstEvlr s) (number NumberOfEvlrs s)) → rewrittenOf allowance s d .1 ≡ s ++ drop (length s) d
   same-bytes paired =
       let size = outlineIn s .«header_size» in
       let split = take-append-drop size s in
-      let whole = header-whole allowance s (accepted-holds allowance s p .0) in
+      let whole = header-whole allowance s (accepted-holds allowance s p) in
       begins ∙ ap (λ (l : List ℕ). l ++ drop (length s) d)
       (ap written (sym split) ∙ paired-same (take size s) whole (bytes-take size s bytes) (drop size s) (rw split paired) ∙ split)
 
@@ -96,4 +100,4 @@ module _ (allowance : ℕ) (s : List ℕ) (bytes : Bytes s) {n : ℕ} (p : check
 
   -- and in the place of every part, in their order, stands what its writer makes of what its reader answers, gaps being copied.
   pub each-part : Stands (rewrittenOf allowance s d .1) (outlineIn s) s (partsOf (outlineIn s) s)
-  each-part = subst (λ (l : List ℕ). Stands l (outlineIn s) s (partsOf (outlineIn s) s)) (sym left) (laid-stand (outlineIn s) s bytes [] (drop (length s) d) 0 (length s) (partsOf (outlineIn s) s) refl (file-tiles allowance s bytes p))
+  each-part = subst (λ (l : List ℕ). Stands l (outlineIn s) s (partsOf (outlineIn s) s)) (sym left) (laid-stand (outlineIn s) s bytes [] (drop (length s) d) 0 (partsOf (outlineIn s) s) refl (file-tiles allowance s p bytes))

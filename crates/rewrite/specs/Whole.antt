@@ -1,12 +1,12 @@
 -- Of bytes, what stands for all parts is the file, but for the header's EVLR pair.
-use Prim.Native.Nat.{ℕ, _+_}
-use mathlib.Core.Path.{_≡_, refl, ap, sym, _∙_}
+use Prim.Native.Nat.{ℕ, _+_, _-_, _≤_}
+use mathlib.Core.Path.{_≡_, refl, ap, _∙_}
 use mathlib.Core.Bool.{Bool, true, false}
-use mathlib.Core.List.{List, [], _∷_, _++_}
+use mathlib.Core.List.{List, [], _∷_}
 use native.Mathlib.Omega.{arith}
 use native.Mathlib.Nat.{zero-add}
 use lib.ListN.{length, take, drop, length-append, length-drop, take-append-drop}
-use lib.Seq.{drop-drop, drop-length, length-take-le}
+use lib.Seq.{take-all, length-take-le}
 use Rattle.le.specs.Le.{Bytes}
 use Rattle.le.specs.Laws.{bytes-take, bytes-drop}
 use Rattle.outline.specs.declared.Outline.{Outline}
@@ -16,9 +16,10 @@ use Rattle.cursor.specs.declared.Kind.the-variants.{Header, Vlr, Gap, Points, E
 use Rattle.rewrite.specs.Back.{partBack}
 use Rattle.rewrite.specs.Laws.{part-same, vlr-same}
 use Rattle.rewrite.specs.Pair.{written, header-written, length-written, written-append}
-use Rattle.cursor.specs.Parts.{bytesOf}
+use Rattle.cursor.specs.Parts.{part, Covers, Each, bytesOf, joined}
+use Rattle.cursor.specs.Covers.{covers-up, joined-is}
 use Rattle.rewrite.specs.Rewritten.{backOf}
-use Rattle.rewrite.specs.Asked.{PartIs, At, Tiles}
+use Rattle.rewrite.specs.Asked.{PartIs, IsWhole, Tiles}
 
 abbrev pub isHeader : Kind → Bool
 isHeader Header = true
@@ -27,22 +28,10 @@ isHeader Gap = false
 isHeader Points = false
 isHeader Evlr = false
 
--- no part is a header
-abbrev pub NoHeader : List Part → Type 0
-NoHeader [] = Unit
-NoHeader (p ∷ ps) = (isHeader (p .kind) ≡ false) × NoHeader ps
-
--- the first alone is
-abbrev pub HeaderFirst : List Part → Type 0
-HeaderFirst [] = ⊥
-HeaderFirst (p ∷ ps) = (p .kind ≡ Header) × NoHeader ps
+abbrev pub NoHeader : Part → Type 0
+NoHeader p = isHeader (p .kind) ≡ false
 
 module _ (o : Outline) where
-  -- some parts and then others
-  pub tiles-append : (s : List ℕ) (a b c : ℕ) (xs ys : List Part) → Tiles o s a xs b → Tiles o s b ys c → Tiles o s a (xs ++ ys) c
-  tiles-append s a b c [] ys t u = rw t u
-  tiles-append s a b c (x ∷ xs) ys (h, t) u = (h, tiles-append s (a + x .length) b c xs ys t u)
-
   -- every part but a header is itself
   pub body-same : (k : Kind) (t : List ℕ) → PartIs o k t → Bytes t → isHeader k ≡ false → partBack o k t ≡ t
   unfolding partBack PartIs
@@ -65,32 +54,32 @@ module _ (o : Outline) where
     pub bytes-part : (p : Part) → Bytes (bytesOf s p)
     bytes-part p = bytes-take (p .length) (drop (p .start) s) (bytes-drop (p .start) s bytes)
 
-    -- a part's bytes
-    pub length-part : (at : ℕ) (p : Part) → At o s at p → length (bytesOf s p) ≡ p .length
-    length-part at p a = length-take-le (p .length) (drop (p .start) s) (simp length-drop (omega (arith, a .start, a .ends)))
+    -- the first of some parts ends in the file,
+    pub first-ends : (at : ℕ) (p : Part) (ps : List Part) → Covers at (length s) (p ∷ ps) → p .start + p .length ≤ length s
+    first-ends at p ps (e, c) = omega (arith, covers-up (at + p .length) (length s) ps c)
 
-    pub length-back : (at : ℕ) (p : Part) → At o s at p → length (partBack o (p .kind) (bytesOf s p)) ≡ p .length
-    length-back at p a = part-length (p .kind) (bytesOf s p) (a .whole) (bytes-part p) ∙ length-part at p a
+    -- so it has its bytes, and so has what stands for it
+    pub length-part : (p : Part) → p .start + p .length ≤ length s → length (bytesOf s p) ≡ p .length
+    length-part p ends = length-take-le (p .length) (drop (p .start) s) (simp length-drop (omega arith))
 
-    pub length-tiles : (at end : ℕ) (ps : List Part) → Tiles o s at ps end → at + length (backOf o s ps) ≡ end
+    pub length-back : (p : Part) → p .start + p .length ≤ length s → IsWhole o s p → length (partBack o (p .kind) (bytesOf s p)) ≡ p .length
+    length-back p ends whole = part-length (p .kind) (bytesOf s p) whole (bytes-part p) ∙ length-part p ends
+
+    pub length-tiles : (at : ℕ) (ps : List Part) → Tiles o s at ps → at + length (backOf o s ps) ≡ length s
     unfolding backOf
-    length-tiles at end [] t = omega (arith, t)
-    length-tiles at end (p ∷ ps) (a, t) = rw length-append (omega (arith, length-back at p a, length-tiles (at + p .length) end ps t))
+    length-tiles at [] (c, w) = omega (arith, c)
+    length-tiles at (p ∷ ps) ((e, c), (whole, w)) =
+        rw length-append (omega (arith, length-back p (first-ends at p ps (e, c)) whole, length-tiles (at + p .length) ps (c, w)))
 
-    pub tiles-same : (at : ℕ) (ps : List Part) → Tiles o s at ps (length s) → NoHeader ps → backOf o s ps ≡ drop at s
+    back-joined : (ps : List Part) → Each (IsWhole o s) ps → Each NoHeader ps → backOf o s ps ≡ joined s ps
     unfolding backOf
-    tiles-same at [] t none = rw t (sym (drop-length s))
-    tiles-same at (p ∷ ps) (a, t) (body, none) =
-        let first : partBack o (p .kind) (bytesOf s p) ≡ take (p .length) (drop at s) = body-same (p .kind) (bytesOf s p) (a .whole) (bytes-part p) body ∙ ap (λ (k : ℕ). take (p .length) (drop k s)) (a .start) in
-        rw (first, tiles-same (at + p .length) ps t none, ← (drop-drop (p .length) at s)) (take-append-drop (p .length) (drop at s))
+    back-joined [] w none = refl
+    back-joined (p ∷ ps) (whole, w) (body, none) = rw (body-same (p .kind) (bytesOf s p) whole (bytes-part p) body, back-joined ps w none)
 
     -- the header and all that follows it
-    pub whole-same : (ps : List Part) → Tiles o s 0 ps (length s) → HeaderFirst ps → backOf o s ps ≡ written s
+    pub whole-same : (n : ℕ) (ps : List Part) → Tiles o s 0 (part Header 0 n ∷ ps) → Each NoHeader ps → backOf o s (part Header 0 n ∷ ps) ≡ written s
     unfolding backOf partBack PartIs
-    whole-same [] t first = absurd first
-    whole-same (p ∷ ps) (a, t) (is, none) =
-        let front : bytesOf s p ≡ take (p .length) s = ap (λ (k : ℕ). take (p .length) (drop k s)) (a .start) in
-        let whole = rw (is, front) at (a .whole) in
-        let head = ap (partBack o (p .kind)) front ∙ ap (λ (k : Kind). partBack o k (take (p .length) s)) is ∙ header-written (take (p .length) s) whole (bytes-take (p .length) s bytes) in
-        rw (head, tiles-same (p .length) ps (rw zero-add at t) none)
-        (written-append (take (p .length) s) whole (drop (p .length) s) ∙ ap written (take-append-drop (p .length) s))
+    whole-same n ps ((e, c), (whole, w)) none =
+        let rest : backOf o s ps ≡ drop n s = back-joined ps w none ∙ joined-is s n (length s) ps (rw zero-add at c) ∙ take-all (length s - n) (drop n s) (simp length-drop (omega arith)) in
+        rw (header-written (take n s) whole (bytes-take n s bytes), rest)
+        (written-append (take n s) whole (drop n s) ∙ ap written (take-append-drop n s))

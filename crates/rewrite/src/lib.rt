@@ -49,7 +49,7 @@ pub fn rewrite(file: &[u8], allowance: u64, dst: &mut [u8]) -> Rewrote
 
 // The parts from the cursor on, each into the rest of the destination.
 fn rewrite_parts(file: &[u8], o: Outline, c: Cursor, dst: &mut [u8])
-    requires { ⌜ Tiles o (now file) 0 (leftOf (now file) c) (length (now file)) × (length (now file) ≤ length (now dst)) ⌝ }
+    requires { ⌜ Tiles o (now file) 0 (leftOf (now file) c) × (length (now file) ≤ length (now dst)) ⌝ }
     ensures { λ _. ⌜ now (dst .exit) ≡ backOf o (now (file .entry)) (leftOf (now (file .entry)) c) ++ drop (length (now (file .entry))) (now (dst .entry)) ⌝ }
 {
     let mut c = c;

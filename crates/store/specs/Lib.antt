@@ -1,2 +1,4 @@
-pub mod Laws
+-- definitions
 pub mod Window
+-- laws
+pub mod Laws

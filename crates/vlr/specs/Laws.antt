@@ -11,9 +11,9 @@ use lib.Dec.{ltb, leb, eqb}
 use Rattle.le.specs.Laws.{length-bytes, num-take}
 use Rattle.refusal.specs.declared.Refusal.{Refusal}
 use Rattle.refusal.specs.declared.Refusal.the-variants.{Short, VlrDataLength}
-use Rattle.lent.specs.declared.Wrote.{Wrote}
 use Rattle.lent.specs.declared.Wrote.the-variants as wrote
 use Rattle.lent.specs.Front.{frontOf}
+use Rattle.lent.specs.Laws.{passed, answered}
 use Rattle.vlr.specs.declared.Extent.the-variants.{Bytes, Refused}
 use Rattle.vlr.specs.declared.RecordLength.{RecordLength}
 use Rattle.vlr.specs.declared.RecordLength.the-variants as kind
@@ -149,21 +149,10 @@ pub record Written (v : Vlr) (content d d′ : List ℕ) (n : ℕ) : Type 0 wher
   pub size : n ≡ length (headBytes v ++ content)
   pub left : d′ ≡ (headBytes v ++ content) ++ drop (length (headBytes v ++ content)) d
 
-refused : {x : Refusal} {n : ℕ} {d d′ : List ℕ} → _≡_ {A = Wrote × List ℕ} (wrote.Refused x, d) (wrote.Bytes n, d′) → ⊥
-refused {x} {n} p =
-    let q : wrote.Refused x ≡ wrote.Bytes n = ap (λ (w : Wrote × List ℕ). w .0) p in
-    let z : _≡_ {A = ℕ} 0 1 = cc in
-    omega arith
-
-both : (a b : Bool) (x y : Refusal) (d e d′ : List ℕ) (m : ℕ) {n : ℕ} → _≡_ {A = Wrote × List ℕ} (cond a (cond b (wrote.Bytes m, e) (wrote.Refused x, d)) (wrote.Refused y, d)) (wrote.Bytes n, d′) → (a ≡ true) × (n ≡ m) × (d′ ≡ e)
-both true true x y d e d′ m {n} p =
-    let q : wrote.Bytes m ≡ wrote.Bytes n = ap (λ (w : Wrote × List ℕ). w .0) p in
-    (refl, cc, sym (ap (λ (w : Wrote × List ℕ). w .1) p))
-both true false x y d e d′ m p = absurd (refused p)
-both false b x y d e d′ m p = absurd (refused p)
-
 pub written : (v : Vlr) (content d d′ : List ℕ) {n : ℕ} → writtenOf v content d ≡ (wrote.Bytes n, d′) → Written v content d d′ n
 unfolding writtenOf
 written v content d d′ p =
-    let q = both (eqb (length content) (dataLength (v .«record_length_after_header»))) (leb (length (headBytes v ++ content)) (length d)) _ _ _ _ _ _ p in
-    record { stated = eqb-true _ _ (q .0); size = q .1; left = q .2 }
+    let stated = passed (eqb (length content) (dataLength (v .«record_length_after_header»))) _ _ _ p in
+    let room = passed (leb (length (headBytes v ++ content)) (length d)) _ _ _ (stated .1) in
+    let q = answered (room .1) in
+    record { stated = eqb-true _ _ (stated .0); size = q .0; left = q .1 }

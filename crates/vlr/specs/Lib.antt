@@ -1,6 +1,9 @@
+-- definitions
 pub mod Layout
-pub mod Places
 pub mod Vlr
+-- laws
+pub mod Places
 pub mod Laws
 pub mod Heads
+-- theorems
 pub mod Theorems

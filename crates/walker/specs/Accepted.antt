@@ -10,7 +10,6 @@ use Rattle.header.specs.Judged.{readOf}
 use Rattle.outline.specs.declared.Outline.{Outline}
 use Rattle.outline.specs.Outline.{outlineOf}
 use Rattle.rules.specs.declared.Checked.the-variants.{Accepted}
-use Rattle.extents.specs.Extents.{pointsEnd}
 use Rattle.file.specs.Rules.{checkedOf}
 use Rattle.file.specs.Points.{pointFormat, length-fits, format-long}
 use Rattle.file.specs.Theorems.{accepted-holds}
@@ -33,16 +32,16 @@ module _ (allowance : ℕ) (file : RefT (List ℕ)) (n : ℕ) (accepted : checke
 
   -- in records as long as the header says
   long : recordBytes (pointFormat first) ≡ first .«point_data_record_length»
-  long = format-long allowance (now file) (accepted-holds allowance (now file) accepted .0)
+  long = format-long allowance (now file) (accepted-holds allowance (now file) accepted)
 
   -- and has its records before it
   pub ready : Bytes (now file) → Ready (firstOf file)
-  unfolding firstPlace pointsEnd
+  unfolding firstPlace
   ready bytes =
       record {
         accepted = refl;
         fits = rw long (length-fits (now file) bytes);
-        room = rw long (accepted-holds allowance (now file) accepted .0 .parts .points-within);
+        room = rw long (accepted-holds allowance (now file) accepted .parts .points-within);
       }
 
   -- each as long as the header says

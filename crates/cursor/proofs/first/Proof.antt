@@ -1,25 +1,21 @@
 use borrow.Author.Needs.{needs}
 use native.Mathlib.Omega.{arith}
-use Rattle.extents.specs.Extents.{pointsEnd}
 use Rattle.cursor.specs.Cursor.{planOf, firstOf}
 use Rattle.cursor.proofs.first.Statement.{statement}
 use Rattle.cursor.proofs.first.Tie as tie
 
 -- product and sum are below the end of the points
 mul-end : tie.Need-mul-end
-unfolding pointsEnd
 mul-end c = record { fits = omega arith }
 
 add-end : tie.Need-add-end
-unfolding pointsEnd
 add-end c = record { fits = omega arith }
 
 start-of-evlrs-requires : tie.Need-start-of-evlrs-requires
-unfolding pointsEnd
 start-of-evlrs-requires c κs = search needs
 
 returns : tie.Need-returns
-unfolding firstOf planOf pointsEnd
+unfolding firstOf planOf
 returns c = rw (← (c .start-of-evlrs .ensures))
 
 pub first-spec : {M : Type 1} → statement M

@@ -5,13 +5,13 @@ use borrow.Author.Needs.{needs}
 use borrow.Author.Tests.{lt-leb, le-leb}
 use lib.ListN.{length}
 use Rattle.rules.specs.Rules.{first, recordNumber}
-use Rattle.extents.specs.Extents.{pointRule, pointsEnd}
+use Rattle.extents.specs.Extents.{pointRule}
 use Rattle.extents.proofs.Then.{beyond, inside}
 use Rattle.extents.proofs.check_points.Statement.{statement}
 use Rattle.extents.proofs.check_points.Tie as tie
 
 returns : tie.Need-returns
-unfolding first pointRule pointsEnd recordNumber
+unfolding first pointRule recordNumber
 returns c =
     let b = c .before .before in
     let start = b .before .before .before .before in
@@ -27,11 +27,10 @@ ends c =
     inside (length (start .args .file .now)) (o .«offset_to_point_data») (o .«point_data_record_length») (o .«number_of_point_records») (start .pre .within) (start .pre .some-length) (c .if1 .left)
 
 returns-2 : tie.Need-returns-2
-unfolding first pointRule pointsEnd
+unfolding first pointRule
 returns-2 c = rw (le-leb _ _ (ends (c .before))) (c .check-evlrs .ensures)
 
 check-evlrs-requires : tie.Need-check-evlrs-requires
-unfolding pointsEnd
 check-evlrs-requires c κs = refl
 
 pub check-points-spec : {M : Type 1} → statement M

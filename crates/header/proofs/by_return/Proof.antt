@@ -1,5 +1,5 @@
 use borrow.Author.Needs.{needs}
-use Rattle.header.specs.Header.{nums}
+use Rattle.header.specs.Kinds.{nums}
 use Rattle.header.proofs.by_return.Statement.{statement}
 use Rattle.header.proofs.by_return.Tie as tie
 

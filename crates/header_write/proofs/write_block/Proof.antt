@@ -1,13 +1,14 @@
 -- Long since three layouts return, each with its own stores before it; what they share is said once, over the place in the code.
 use Prim.Native.Nat.{ℕ}
-use mathlib.Core.List.{[], _∷_, _++_}
 use mathlib.Core.Path.{refl, ap, _∙_}
 use borrow.Author.Tests.{le-ltb, lt-ltb}
 use borrow.Author.Needs.{needs}
 use lib.Seq.{sets}
-use Rattle.header.specs.Layout.{StartOfWaveformDataPacketRecord, origin, contents, scales, bounds, large, fields12, fields13}
+use Rattle.header.specs.Layout.{place, width, fields12, fields13}
 use Rattle.le.specs.Le.{bytes}
-use Rattle.header_write.specs.Table.{Stored, stored, none, _&_, then}
+use Rattle.fields.specs.Table.{Stored, store, done}
+use Rattle.fields.specs.Laws.{then}
+use Rattle.header_write.specs.Bytes.{fieldBytes}
 use Rattle.header_write.proofs.write_block.Statement.{statement}
 use Rattle.header_write.proofs.write_block.Tie as tie
 
@@ -25,23 +26,21 @@ module _ (b : tie.After-write-bounds) where
   abbrev begun : tie.Start
   begun = come .before .before .before
 
-  upTo12 : Stored (begun .args .h) (begun .args .dst .now) fields12 (b .write-bounds .last .1 .0)
+  upTo12 : Stored width place (fieldBytes (begun .args .h)) (begun .args .dst .now) fields12 (b .write-bounds .last .1 .0)
   upTo12 =
-      let h = begun .args .h in
-      then h (begun .args .dst .now) origin (contents ++ (scales ++ bounds)) (come .write-origin .ensures)
-      (then h (come .write-origin .last .1 .0) contents (scales ++ bounds) (held .write-contents .ensures)
-      (then h (held .write-contents .last .1 .0) scales bounds (scaled .write-scales .ensures) (b .write-bounds .ensures)))
+      let g = fieldBytes (begun .args .h) in
+      then width g place (come .write-origin .ensures)
+      (then width g place (held .write-contents .ensures) (then width g place (scaled .write-scales .ensures) (b .write-bounds .ensures)))
 
 -- and where the waveform start is stored, what 1.3 adds
 module _ (w : tie.After-set-u64) where
   abbrev bound : tie.After-write-bounds
   bound = w .before .before .before .before .before .before
 
-  upTo13 : Stored (begun bound .args .h) (begun bound .args .dst .now) fields13 (w .set-u64 .last .0)
-  unfolding stored
+  upTo13 : Stored width place (fieldBytes (begun bound .args .h)) (begun bound .args .dst .now) fields13 (w .set-u64 .last .0)
   upTo13 =
-      then (begun bound .args .h) (begun bound .args .dst .now) fields12 (StartOfWaveformDataPacketRecord ∷ []) (upTo12 bound)
-      (record { bytes = w .set-u64 .ensures ∙ ap (λ (k : ℕ). sets (bound .write-bounds .last .1 .0) 227 (bytes 8 k)) (w .before .start-back .ensures); wide = refl & none })
+      then width (fieldBytes (begun bound .args .h)) place (upTo12 bound)
+      (store (w .set-u64 .ensures ∙ ap (λ (k : ℕ). sets (bound .write-bounds .last .1 .0) 227 (bytes 8 k)) (w .before .start-back .ensures)) refl done)
 
 returns : tie.Need-returns
 returns c = rw (lt-ltb _ _ (c .if1 .taken)) (upTo12 (c .before .before .before))
@@ -55,8 +54,7 @@ returns-3 : tie.Need-returns-3
 returns-3 c =
     let new = c .before .before .before .before in
     let w = new .before .before .before in
-    let s = begun (bound w) .args in
-    rw (le-ltb _ _ (w .before .before .before .if1 .left), le-ltb _ _ (new .if2 .left)) (then (s .h) (s .dst .now) fields13 large (upTo13 w) (c .before .before .write-large .ensures))
+    rw (le-ltb _ _ (w .before .before .before .if1 .left), le-ltb _ _ (new .if2 .left)) (then width (fieldBytes (begun (bound w) .args .h)) place (upTo13 w) (c .before .before .write-large .ensures))
 
 pub write-block-spec : {M : Type 1} → statement M
 write-block-spec =

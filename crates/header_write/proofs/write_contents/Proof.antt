@@ -1,10 +1,15 @@
-use mathlib.Core.Path.{refl}
-use mathlib.Core.List.{[], _∷_}
-use Rattle.header.specs.Layout.{FileCreationDayOfYear, FileCreationYear, HeaderSize, OffsetToPointData, NumberOfVariableLengthRecords, PointDataRecordFormat, PointDataRecordLength, LegacyNumberOfPointRecords, LegacyNumberOfPointsByReturn}
+use Prim.Native.Nat.{ℕ, _*_, _<_}
+use mathlib.Core.Path.{refl, ap, _∙_}
+use lib.Seq.{sets}
 use borrow.Author.Needs.{needs}
-use Rattle.header_write.specs.Table.{length-many, nothing, next, none, _&_}
+use Rattle.le.specs.Laws.{one-byte}
+use Rattle.fields.specs.Table.{store, done}
+use Rattle.header.specs.Values.{length-numbers}
 use Rattle.header_write.proofs.write_contents.Statement.{statement}
 use Rattle.header_write.proofs.write_contents.Tie as tie
+
+format-fits : (s : tie.Start) → s .args .h .«point_data_record_format» < 256
+format-fits s = search needs
 
 returns : tie.Need-returns
 returns c =
@@ -17,30 +22,17 @@ returns c =
     let c3 = c4 .before .before .before .before in
     let c2 = c3 .before .before .before .before in
     let c1 = c2 .before .before .before .before in
-    let a = c1 .before .before .before .before .args in
-    let d1 = c1 .set-u16 .last .0 in
-    let d2 = c2 .set-u162 .last .0 in
-    let d3 = c3 .set-u163 .last .0 in
-    let d4 = c4 .set-u32 .last .0 in
-    let d5 = c5 .set-u322 .last .0 in
-    let d6 = c6 .set-u8 .last .0 in
-    let d7 = c7 .set-u164 .last .0 in
-    let d8 = c8 .set-u323 .last .0 in
-    let d9 = c9 .set-by-return .last .0 in
-    record {
-      bytes =
-          next (a .h) (a .dst .now) FileCreationDayOfYear (FileCreationYear ∷ HeaderSize ∷ OffsetToPointData ∷ NumberOfVariableLengthRecords ∷ PointDataRecordFormat ∷ PointDataRecordLength ∷ LegacyNumberOfPointRecords ∷ LegacyNumberOfPointsByReturn ∷ []) (c1 .set-u16 .ensures)
-          (next (a .h) d1 FileCreationYear (HeaderSize ∷ OffsetToPointData ∷ NumberOfVariableLengthRecords ∷ PointDataRecordFormat ∷ PointDataRecordLength ∷ LegacyNumberOfPointRecords ∷ LegacyNumberOfPointsByReturn ∷ []) (c2 .set-u162 .ensures)
-          (next (a .h) d2 HeaderSize (OffsetToPointData ∷ NumberOfVariableLengthRecords ∷ PointDataRecordFormat ∷ PointDataRecordLength ∷ LegacyNumberOfPointRecords ∷ LegacyNumberOfPointsByReturn ∷ []) (c3 .set-u163 .ensures)
-          (next (a .h) d3 OffsetToPointData (NumberOfVariableLengthRecords ∷ PointDataRecordFormat ∷ PointDataRecordLength ∷ LegacyNumberOfPointRecords ∷ LegacyNumberOfPointsByReturn ∷ []) (c4 .set-u32 .ensures)
-          (next (a .h) d4 NumberOfVariableLengthRecords (PointDataRecordFormat ∷ PointDataRecordLength ∷ LegacyNumberOfPointRecords ∷ LegacyNumberOfPointsByReturn ∷ []) (c5 .set-u322 .ensures)
-          (next (a .h) d5 PointDataRecordFormat (PointDataRecordLength ∷ LegacyNumberOfPointRecords ∷ LegacyNumberOfPointsByReturn ∷ []) (c6 .set-u8 .ensures)
-          (next (a .h) d6 PointDataRecordLength (LegacyNumberOfPointRecords ∷ LegacyNumberOfPointsByReturn ∷ []) (c7 .set-u164 .ensures)
-          (next (a .h) d7 LegacyNumberOfPointRecords (LegacyNumberOfPointsByReturn ∷ []) (c8 .set-u323 .ensures)
-          (next (a .h) d8 LegacyNumberOfPointsByReturn [] (c9 .set-by-return .ensures .0)
-          (nothing (a .h) d9)))))))));
-      wide = refl & refl & refl & refl & refl & refl & refl & refl & length-many 4 5 _ (c9 .set-by-return .ensures .1) & none;
-    }
+    let s = c1 .before .before .before .before in
+    let h = s .args .h in
+    store (c1 .set-u16 .ensures) refl
+    (store (c2 .set-u162 .ensures) refl
+    (store (c3 .set-u163 .ensures) refl
+    (store (c4 .set-u32 .ensures) refl
+    (store (c5 .set-u322 .ensures) refl
+    (store (c6 .set-u8 .ensures ∙ ap (sets (c5 .set-u322 .last .0) 104) (one-byte (h .«point_data_record_format») (format-fits s))) refl
+    (store (c7 .set-u164 .ensures) refl
+    (store (c8 .set-u323 .ensures) refl
+    (store (c9 .set-by-return .ensures .0) (length-numbers 4 (h .«number_of_points_by_return») ∙ ap (λ (n : ℕ). n * 4) (c9 .set-by-return .ensures .1)) done))))))))
 
 pub write-contents-spec : {M : Type 1} → statement M
 write-contents-spec =

@@ -1,8 +1,6 @@
 use mathlib.Core.Path.{refl}
-use mathlib.Core.List.{[], _∷_}
-use Rattle.header.specs.Layout.{XScaleFactor, YScaleFactor, ZScaleFactor, XOffset, YOffset, ZOffset}
 use borrow.Author.Needs.{needs}
-use Rattle.header_write.specs.Table.{nothing, next, none, _&_}
+use Rattle.fields.specs.Table.{store, done}
 use Rattle.header_write.proofs.write_scales.Statement.{statement}
 use Rattle.header_write.proofs.write_scales.Tie as tie
 
@@ -14,24 +12,12 @@ returns c =
     let c3 = c4 .before .before .before .before in
     let c2 = c3 .before .before .before .before in
     let c1 = c2 .before .before .before .before in
-    let a = c1 .before .before .before .before .args in
-    let d1 = c1 .set-f64 .last .0 in
-    let d2 = c2 .set-f642 .last .0 in
-    let d3 = c3 .set-f643 .last .0 in
-    let d4 = c4 .set-f644 .last .0 in
-    let d5 = c5 .set-f645 .last .0 in
-    let d6 = c6 .set-f646 .last .0 in
-    record {
-      bytes =
-          next (a .h) (a .dst .now) XScaleFactor (YScaleFactor ∷ ZScaleFactor ∷ XOffset ∷ YOffset ∷ ZOffset ∷ []) (c1 .set-f64 .ensures)
-          (next (a .h) d1 YScaleFactor (ZScaleFactor ∷ XOffset ∷ YOffset ∷ ZOffset ∷ []) (c2 .set-f642 .ensures)
-          (next (a .h) d2 ZScaleFactor (XOffset ∷ YOffset ∷ ZOffset ∷ []) (c3 .set-f643 .ensures)
-          (next (a .h) d3 XOffset (YOffset ∷ ZOffset ∷ []) (c4 .set-f644 .ensures)
-          (next (a .h) d4 YOffset (ZOffset ∷ []) (c5 .set-f645 .ensures)
-          (next (a .h) d5 ZOffset [] (c6 .set-f646 .ensures)
-          (nothing (a .h) d6))))));
-      wide = refl & refl & refl & refl & refl & refl & none;
-    }
+    store (c1 .set-f64 .ensures) refl
+    (store (c2 .set-f642 .ensures) refl
+    (store (c3 .set-f643 .ensures) refl
+    (store (c4 .set-f644 .ensures) refl
+    (store (c5 .set-f645 .ensures) refl
+    (store (c6 .set-f646 .ensures) refl done)))))
 
 pub write-scales-spec : {M : Type 1} → statement M
 write-scales-spec =

@@ -6,12 +6,12 @@ use borrow.Author.Tests.{le-leb}
 use borrow.Author.Needs.{needs}
 use lib.ListN.{length}
 use Rattle.lent.specs.declared.Wrote.the-variants.{Bytes}
+use Rattle.lent.specs.Laws.{then-tail}
 use Rattle.refusal.proofs.Tests.{tests}
 use Rattle.header.specs.Laws.{known}
 use Rattle.header_write.specs.Wrote.{wroteBy}
 use Rattle.header_write.specs.Table.{stored-block, length-block}
 use Rattle.header_write.specs.Bytes.{block}
-use Rattle.header_write.proofs.Stored.{padded}
 use Rattle.header_write.proofs.write_sized.Statement.{statement}
 use Rattle.header_write.proofs.write_sized.Tie as tie
 
@@ -31,7 +31,7 @@ returns-2 c =
     let size : length (block (a .h)) ≡ a .n = length-block (a .h) (wrote .ensures) ∙ sym (known (a .h .version) (a .n) (sym (c11 .pre)) .2) in
     rw (le-leb _ _ (c8 .if1 .left))
     (ap (λ (l : List ℕ). (Bytes (a .n + length (a .padding .now)), l))
-    (padded (a .dst .now) (block (a .h)) (a .padding .now) (wrote .last .1 .0) (put .last .0) (a .n) (put .result) size (omega arith) (stored-block (a .h) (wrote .ensures)) (put .ensures)))
+    (then-tail (a .dst .now) (block (a .h)) (a .padding .now) (wrote .last .1 .0) (put .last .0) (a .n) (put .result) size (omega arith) (stored-block (a .h) (wrote .ensures)) (put .ensures)))
 
 pub write-sized-spec : {M : Type 1} → statement M
 write-sized-spec =

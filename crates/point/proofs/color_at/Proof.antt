@@ -1,6 +1,6 @@
 use native.Mathlib.Omega.{arith}
 use Rattle.point.specs.Read.{colorAt}
-use Rattle.point.proofs.Parts.{num-part, num-first}
+use Rattle.le.specs.Part.{num-part, num-first}
 use borrow.Author.Needs.{needs}
 use Rattle.point.proofs.color_at.Statement.{statement}
 use Rattle.point.proofs.color_at.Tie as tie

@@ -1,20 +1,18 @@
 -- The part from the table's place for the extra bytes to the record's end is as long as the format says.
 use Prim.Native.Nat.{_-_}
-use mathlib.Core.Path.{_≡_, ap}
+use mathlib.Core.Path.{_≡_}
 use borrow.Author.Tests.{lt-ltb, le-ltb}
 use native.Mathlib.Omega.{arith}
 use Rattle.format.specs.declared.Field.the-variants.{ExtraBytes}
 use Rattle.format.specs.Fields.{placeOf}
 use Rattle.format.specs.Laws.{record-end}
-use Rattle.layout.specs.declared.Places.{Places}
-use Rattle.layout.specs.Layout.{placesOf}
+use Rattle.layout.specs.Placed.{placed}
 use borrow.Author.Needs.{needs}
 use Rattle.point.proofs.extra_sized.Statement.{statement}
 use Rattle.point.proofs.extra_sized.Tie as tie
 
 last : (c : tie.After-places-for) → c .places-for .result .«extra_bytes» ≡ placeOf (c .before .before .before .args .format) ExtraBytes
-unfolding placesOf
-last c = ap (λ (p : Places). p .«extra_bytes») (c .places-for .ensures)
+last c = placed (c .before .before .before .args .format) (c .places-for .ensures) .extra
 
 returns : tie.Need-returns
 returns c = rw (lt-ltb _ _ (c .before .if1 .taken))

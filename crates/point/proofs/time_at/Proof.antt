@@ -1,6 +1,6 @@
 use native.Mathlib.Omega.{arith}
 use Rattle.point.specs.Read.{timeAt}
-use Rattle.point.proofs.Parts.{num-first}
+use Rattle.le.specs.Part.{num-first}
 use borrow.Author.Needs.{needs}
 use Rattle.point.proofs.time_at.Statement.{statement}
 use Rattle.point.proofs.time_at.Tie as tie

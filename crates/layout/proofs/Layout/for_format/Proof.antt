@@ -8,12 +8,12 @@ use Rattle.format.specs.Fields.{placeOf}
 use Rattle.format.specs.Laws.{further, record-end, fixed-le}
 use Rattle.layout.specs.declared.Places.{Places}
 use Rattle.layout.specs.Layout.{placesOf, placedOf, layoutOf}
+use Rattle.layout.specs.Placed.{placed}
 use Rattle.layout.proofs.Layout.for_format.Statement.{statement}
 use Rattle.layout.proofs.Layout.for_format.Tie as tie
 
 last : (c : tie.After-places-for) → c .places-for .result .«extra_bytes» ≡ placeOf (c .before .args .format) ExtraBytes
-unfolding placesOf
-last c = ap (λ (p : Places). p .«extra_bytes») (c .places-for .ensures)
+last c = placed (c .before .args .format) (c .places-for .ensures) .extra
 
 add-t9 : tie.Need-add-t9
 add-t9 c =
