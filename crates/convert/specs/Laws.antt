@@ -2,23 +2,19 @@
 -- records.
 use Prim.Native.Nat.{ℕ, zero, suc, _+_, _*_, _≤_}
 use mathlib.Core.Path.{_≡_, refl, ap, sym, _∙_}
-use mathlib.Core.Bool.{Bool, true, false, cond}
+use mathlib.Core.Bool.{Bool, true, false}
 use mathlib.Core.List.{List, _++_}
 use native.Mathlib.Nat.{zero-mul, suc-mul}
 use native.Mathlib.Omega.{arith}
 use lib.ListN.{length, take, drop, length-append, length-drop}
 use lib.Seq.{length-take-le}
 use Rattle.lent.specs.declared.Wrote.{Wrote}
-use Rattle.lent.specs.declared.Wrote.the-variants as wrote
-use Rattle.format.specs.declared.Format.{Format}
-use Rattle.format.specs.declared.FormatLen.the-variants as len
 use Rattle.format.specs.declared.Field.the-variants.{ExtraBytes}
-use Rattle.format.specs.Fields.{lenOf}
 use Rattle.format.specs.Length.{len-is}
 use Rattle.point.specs.declared.Point.{Point}
 use Rattle.point.specs.declared.PointRead.the-variants.{Is}
 use Rattle.point.specs.Read.{pointOf, fieldOf, readOf, extraOf}
-use Rattle.point_write.specs.Write.{recordOf, writtenOf}
+use Rattle.point_write.specs.Write.{writtenOf}
 use Rattle.point_write.specs.Taken.{Taken, record-length, taken-written}
 use Rattle.point.specs.Answer.{answered, extra-length}
 use Rattle.strict.specs.declared.Fit.{Fit}
@@ -28,31 +24,31 @@ use Rattle.strict.specs.Whole.{fits-two}
 use Rattle.pairs.specs.declared.Plan.{Plan}
 use Rattle.pairs.specs.declared.Planned.{Planned}
 use Rattle.pairs.specs.declared.Planned.the-variants as planned
+use Rattle.pairs.specs.Pairs.{oldPair, newPair, plannedBy}
 use Rattle.pairs.specs.Sound.{Sound, same-extra, not-up}
 use Rattle.judge.specs.declared.Judged.{Judged}
 use Rattle.judge.specs.declared.Judged.the-variants as judged
-use Rattle.judge.specs.Judge.{judgedBy, judgeRun, recordsOf, judgedOf, verdictOn, verdictBy}
-use Rattle.convert.specs.Run.{turnedOf, imageOf, imagesOf, ran, convertedOf, convertedBy, doneOf}
+use Rattle.judge.specs.Judge.{judgedBy, judgeRun, recordsOf, judgedOf, verdictOn, verdictBy, oldVerdict, newVerdict}
+use Rattle.convert.specs.Run.{turnedOf, imageOf, imagesOf, ran, convertedOf, convertedBy, doneOf, toOldOf, toNewOf}
 use Rattle.convert.specs.Asked.{Takes, TakesRun}
-
--- a point that fits is one that the writer takes
-taken : (f : Format) (p : Point) (e : List ℕ) → length e ≡ f .«extra_bytes» → Takes f p → Taken f p e
-taken f p e extra takes = record { flags = (λ old. fits-two p (takes old)); extra = extra }
 
 -- a whole record of the source that the writer takes: its image has the target's length, and is what the writer leaves
 module _ (up : Bool) (p : Plan) (sound : Sound up p) (s : List ℕ) (whole : length s ≡ p .«source_length») (takes : Takes (p .target) (turnedOf up (pointOf (p .source) s))) where
   extra-kept : length (fieldOf (p .source) ExtraBytes s) ≡ p .target .«extra_bytes»
   extra-kept = extra-length (p .source) s (omega (arith, len-is (p .source) (p .«source_length») (sound .from))) ∙ same-extra up _ _ (sound .mates)
 
+  taken : Taken (p .target) (turnedOf up (pointOf (p .source) s)) (fieldOf (p .source) ExtraBytes s)
+  taken = record { flags = (λ old. fits-two _ (takes old)); extra = extra-kept }
+
   pub image-length : length (imageOf up p s) ≡ p .«target_length»
   unfolding imageOf
-  image-length = record-length (p .target) _ _ (taken (p .target) _ _ extra-kept takes) ∙ sym (len-is (p .target) (p .«target_length») (sound .into))
+  image-length = record-length (p .target) _ _ taken ∙ sym (len-is (p .target) (p .«target_length») (sound .into))
 
   pub image-laid : (d : List ℕ) {ys : List ℕ} {r : Wrote} {q : Point} → p .«target_length» ≤ length d → readOf (p .source) s ≡ Is q → (r, ys) ≡ writtenOf (p .target) (turnedOf up q) (extraOf (p .source) s) d → ys ≡ imageOf up p s ++ drop (p .«target_length») d
   unfolding imageOf
   image-laid d {ys} {r} {q} room is e =
       let a = answered (p .source) s q is in
-      ap (λ (w : Wrote × List ℕ). w .1) (rw (a .point, a .extra) at e ∙ taken-written (p .target) _ _ (taken (p .target) _ _ extra-kept takes) (p .«target_length») d room (sound .into))
+      ap (λ (w : Wrote × List ℕ). w .1) (rw (a .point, a .extra) at e ∙ taken-written (p .target) _ _ taken (p .«target_length») d room (sound .into))
 
 -- where the records fit, the writer takes each of them
 pub takes-old : (p : Plan) (number k : ℕ) (s : List ℕ) → judgeRun (p .source) (p .«source_length») number k s ≡ judged.Fits → TakesRun false p k s
@@ -92,7 +88,7 @@ images-length up p sound (suc k) s t h =
     simp length-append (omega (arith, suc-mul k (p .«target_length»), one, rest))
 
 -- what is done by the verdict on a run is its conversion
-pub done-is : (up : Bool) (count : ℕ) (s d : List ℕ) (x : Planned) → doneOf up count s d (verdictBy up count s (length d) x) ≡ convertedBy up count s d x
+done-is : (up : Bool) (count : ℕ) (s d : List ℕ) (x : Planned) → doneOf up count s d (verdictBy up count s (length d) x) ≡ convertedBy up count s d x
 unfolding convertedOf
 done-is up count s d (planned.Refused r) = refl
 done-is up count s d (planned.Is p) = go (judgedOf up p count s (length d))
@@ -100,3 +96,12 @@ done-is up count s d (planned.Is p) = go (judgedOf up p count s (length d))
     go : (x : Judged) → doneOf up count s d (verdictOn p x) ≡ ran x (imagesOf up p count s) (count * p .«target_length») d
     go judged.Fits = refl
     go (judged.Refused r number) = refl
+
+module _ (format extra count : ℕ) (s d : List ℕ) where
+  pub old-done : doneOf false count s d (oldVerdict format extra count s (length d)) ≡ toOldOf format extra count s d
+  unfolding oldVerdict toOldOf
+  old-done = done-is false count s d (plannedBy format (oldPair format extra))
+
+  pub new-done : doneOf true count s d (newVerdict format extra count s (length d)) ≡ toNewOf format extra count s d
+  unfolding newVerdict toNewOf
+  new-done = done-is true count s d (plannedBy format (newPair format extra))

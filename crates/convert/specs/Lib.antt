@@ -1,6 +1,7 @@
+-- definitions
 pub mod Run
 pub mod Demand
-pub mod Theorems
+-- laws
 pub mod Asked
 pub mod Laws
 pub mod Told
@@ -8,3 +9,5 @@ pub mod Each
 pub mod Exact
 pub mod Found
 pub mod Back
+-- theorems
+pub mod Theorems

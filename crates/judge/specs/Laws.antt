@@ -19,12 +19,13 @@ use Rattle.strict.specs.Fit.{fieldsFit, fitOf}
 use Rattle.pairs.specs.declared.Plan.{Plan}
 use Rattle.pairs.specs.declared.Planned.{Planned}
 use Rattle.pairs.specs.declared.Planned.the-variants as planned
-use Rattle.pairs.specs.Sound.{Sound, PlannedSound}
+use Rattle.pairs.specs.Pairs.{oldPair, newPair, plannedBy}
+use Rattle.pairs.specs.Sound.{Sound, PlannedSound, old-planned, new-planned}
 use Rattle.judge.specs.declared.Judged.{Judged}
 use Rattle.judge.specs.declared.Judged.the-variants as judged
 use Rattle.judge.specs.declared.Verdict.{Verdict}
 use Rattle.judge.specs.declared.Verdict.the-variants as verdict
-use Rattle.judge.specs.Judge.{fitRead, recordsOf, judgedOf, verdictOn, verdictBy}
+use Rattle.judge.specs.Judge.{fitRead, recordsOf, judgedOf, verdictOn, verdictBy, oldVerdict, newVerdict}
 
 -- a record's marks are enough to judge it
 abbrev pub fitMarks : MarksRead → Fit
@@ -56,10 +57,19 @@ abbrev pub Ready : Bool → ℕ → List ℕ → ℕ → Verdict → Type 0
 Ready up count s room (verdict.Goes p) = Sound up p × Goes up p count s room
 Ready up count s room (verdict.Refused r number) = Unit
 
-pub ready : (up : Bool) (count : ℕ) (s : List ℕ) (room : ℕ) (x : Planned) → PlannedSound up x → Ready up count s room (verdictBy up count s room x)
+ready : (up : Bool) (count : ℕ) (s : List ℕ) (room : ℕ) (x : Planned) → PlannedSound up x → Ready up count s room (verdictBy up count s room x)
 ready up count s room (planned.Refused r) sound = tt
 ready up count s room (planned.Is p) sound = go (judgedOf up p count s room) refl
   where
     go : (x : Judged) → judgedOf up p count s room ≡ x → Ready up count s room (verdictOn p x)
     go judged.Fits e = (sound, goes up p count s room e)
     go (judged.Refused r number) e = tt
+
+module _ (format extra count : ℕ) (s : List ℕ) (room : ℕ) where
+  pub old-ready : Ready false count s room (oldVerdict format extra count s room)
+  unfolding oldVerdict
+  old-ready = ready false count s room (plannedBy format (oldPair format extra)) (old-planned format extra)
+
+  pub new-ready : Ready true count s room (newVerdict format extra count s room)
+  unfolding newVerdict
+  new-ready = ready true count s room (plannedBy format (newPair format extra)) (new-planned format extra)

@@ -1,2 +1,4 @@
+-- definitions
 pub mod Judge
+-- laws
 pub mod Laws

@@ -1,3 +1,5 @@
+-- definitions
 pub mod Pairs
+-- laws
 pub mod Paired
 pub mod Sound

@@ -52,29 +52,19 @@ new-sound n extra =
     either (PairSound true) (eqb n 1) _ _ (six-one extra) (either (PairSound true) (eqb n 3) _ _ (seven-three extra)
     (either (PairSound true) (eqb n 4) _ _ (nine-four extra) (either (PairSound true) (eqb n 5) _ None (ten-five extra) tt)))
 
--- a plan that is made of a pair is sound
-plan-sound : (up : Bool) (format : ℕ) (pair : Pair) (p : Plan) → PairSound up pair → plannedBy format pair ≡ planned.Is p → Sound up p
-plan-sound up format (Formats a b) p h = go (lenOf a) (lenOf b) refl refl
-  where
-    go : (x y : FormatLen) → lenOf a ≡ x → lenOf b ≡ y → lengthsOf a b x y ≡ planned.Is p → Sound up p
-    go (len.Is m) (len.Is n) f g e =
-        let same : record { source = a; target = b; «source_length» = m; «target_length» = n } ≡ p = cc in
-        rw (← same) (record { from = f; into = g; mates = h })
-    go (len.Is m) (len.Refused r) f g e = let z : _≡_ {A = ℕ} 0 1 = cc in absurd (omega arith)
-    go (len.Refused r) y f g e = let z : _≡_ {A = ℕ} 0 1 = cc in absurd (omega arith)
-plan-sound up format None p h = λ e. let z : _≡_ {A = ℕ} 0 1 = cc in absurd (omega arith)
-
 -- what is planned is sound, if it is a plan
 abbrev pub PlannedSound : Bool → Planned → Type 0
 PlannedSound up (planned.Is p) = Sound up p
 PlannedSound up (planned.Refused r) = Unit
 
 planned-sound : (up : Bool) (format : ℕ) (pair : Pair) → PairSound up pair → PlannedSound up (plannedBy format pair)
-planned-sound up format pair h = go (plannedBy format pair) refl
+planned-sound up format None h = tt
+planned-sound up format (Formats a b) h = go (lenOf a) (lenOf b) refl refl
   where
-    go : (x : Planned) → plannedBy format pair ≡ x → PlannedSound up x
-    go (planned.Is p) e = plan-sound up format pair p h e
-    go (planned.Refused r) e = tt
+    go : (x y : FormatLen) → lenOf a ≡ x → lenOf b ≡ y → PlannedSound up (lengthsOf a b x y)
+    go (len.Is m) (len.Is n) f g = record { from = f; into = g; mates = h }
+    go (len.Is m) (len.Refused r) f g = tt
+    go (len.Refused r) y f g = tt
 
 pub old-planned : (format extra : ℕ) → PlannedSound false (plannedBy format (oldPair format extra))
 old-planned format extra = planned-sound false format (oldPair format extra) (old-sound format extra)

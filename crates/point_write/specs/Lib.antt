@@ -9,6 +9,7 @@ pub mod Back
 pub mod Found
 pub mod Again
 pub mod Past
+pub mod Octets
 pub mod Accepted
 pub mod Octets
 -- theorems

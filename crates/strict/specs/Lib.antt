@@ -1,6 +1,8 @@
+-- definitions
 pub mod Fit
 pub mod Upgrade
 pub mod Shown
+-- laws
 pub mod Made
 pub mod Laws
 pub mod Whole
@@ -8,4 +10,5 @@ pub mod First
 pub mod Named
 pub mod Back
 pub mod Record
+-- theorems
 pub mod Theorems

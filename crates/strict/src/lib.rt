@@ -60,17 +60,6 @@ pub fn upgraded(point: Point) -> Point
     }
 }
 
-// The flags of an old record as a new one has them: class kept, overlap set exactly for class 12, channel 0, the others moved.
-// Three-byte flags stay as they are.
-pub fn upgraded_flags(flags: Flags) -> Flags
-    ensures { λ r. ⌜ r ≡ upgradedFlags flags ⌝ }
-{
-    match flags {
-        Flags::TwoByte(a, b) => moved_flags(a, b),
-        Flags::ThreeByte(_, _, _) => flags,
-    }
-}
-
 // The first of two answers, or the second where the first fits.
 fn first(one: Fit, other: Fit) -> Fit
     ensures { λ r. ⌜ r ≡ firstOf one other ⌝ }
@@ -204,8 +193,8 @@ fn upgraded_old(point: Point, a: u8, b: u8) -> Point
     }
 }
 
-// Direction and edge keep their places, bits 6 and 7; synthetic, key point and withheld move from bits 5 to 7 down to bits 0
-// to 2; the overlap flag, bit 3, is set exactly for class 12.
+// The flags of an old record as a new one has them: class kept, channel 0. Direction and edge keep their places, bits 6 and 7;
+// synthetic, key point and withheld move from bits 5 to 7 down to bits 0 to 2; the overlap flag, bit 3, is set exactly for class 12.
 fn moved_flags(a: u8, b: u8) -> Flags
     ensures { λ r. ⌜ r ≡ upgradedFlags (Flags.TwoByte a b) ⌝ }
 {

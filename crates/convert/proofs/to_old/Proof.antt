@@ -2,32 +2,27 @@ use mathlib.Core.Path.{ap, sym, subst, _∙_}
 use mathlib.Core.Bool.{false}
 use borrow.Author.Needs.{needs}
 use lib.ListN.{length}
-use Rattle.pairs.specs.Pairs.{oldPair, plannedBy}
-use Rattle.pairs.specs.Sound.{old-planned}
-use Rattle.judge.specs.Judge.{oldVerdict}
-use Rattle.judge.specs.Laws.{Ready, ready}
-use Rattle.convert.specs.Run.{doneOf, toOldOf}
-use Rattle.convert.specs.Laws.{done-is}
+use Rattle.judge.specs.Laws.{Ready, old-ready}
+use Rattle.convert.specs.Run.{doneOf}
+use Rattle.convert.specs.Laws.{old-done}
 use Rattle.convert.proofs.to_old.Statement.{statement}
 use Rattle.convert.proofs.to_old.Tie as tie
 
 -- what the verdict names is ready to be written
 convert-requires : tie.Need-convert-requires
-unfolding oldVerdict
 convert-requires c κs =
     let x = c .before in
     let a = x .before .before .before .args in
     subst (Ready false (a .count) (a .src .now) (length (a .dst .now))) (sym (x .to-old .ensures))
-    (ready false (a .count) (a .src .now) (length (a .dst .now)) (plannedBy (a .format) (oldPair (a .format) (a .extra))) (old-planned (a .format) (a .extra)))
+    (old-ready (a .format) (a .extra) (a .count) (a .src .now) (length (a .dst .now)))
 
 returns : tie.Need-returns
-unfolding toOldOf oldVerdict
 returns c =
     let x = c .before .before .before .before in
     let a = x .before .before .before .args in
     c .before .before .convert .ensures
     ∙ ap (doneOf false (a .count) (a .src .now) (a .dst .now)) (x .to-old .ensures)
-    ∙ done-is false (a .count) (a .src .now) (a .dst .now) (plannedBy (a .format) (oldPair (a .format) (a .extra)))
+    ∙ old-done (a .format) (a .extra) (a .count) (a .src .now) (a .dst .now)
 
 pub to-old-spec : {M : Type 1} → statement M
 to-old-spec = tie.close (tie.spec (λ c κs. search needs) convert-requires (λ c. search needs) returns)
