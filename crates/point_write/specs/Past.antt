@@ -56,9 +56,10 @@ module _ (f : Format) (s : List ℕ) (all : Bytes s) where
 
       go : {l : FormatLen} → Told f l → (readOf f t ≡ readOf f s) × (extraOf f t ≡ extraOf f s)
       go (len.over h) = (read-over f t h ∙ sym (read-over f s h), extra-over f t h ∙ sym (extra-over f s h))
-      go (len.fits h) =
-          (either (readOf f) (recordBytes f) (omega arith) (λ room same. read-whole f t h (long room) ∙ ap Is (point-alike room t same) ∙ sym (read-whole f s h room)),
-          either (extraOf f) (recordBytes f) (omega arith) (λ room same. extra-whole f t h (long room) ∙ extra-alike room t same ∙ sym (extra-whole f s h room)))
+      go (len.fits h) = (
+        either (readOf f) (recordBytes f) (omega arith) (λ room same. read-whole f t h (long room) ∙ ap Is (point-alike room t same) ∙ sym (read-whole f s h room)),
+        either (extraOf f) (recordBytes f) (omega arith) (λ room same. extra-whole f t h (long room) ∙ extra-alike room t same ∙ sym (extra-whole f s h room)),
+      )
         where
           long : recordBytes f ≤ length s → recordBytes f ≤ length t
           long room = omega (arith, length-take-le (recordBytes f) s room)
