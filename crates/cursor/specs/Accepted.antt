@@ -11,9 +11,10 @@ use lib.ListN.{length, drop, length-drop}
 use lib.Seq.{take-all}
 use Rattle.outline.specs.declared.Outline.{Outline}
 use Rattle.rules.specs.declared.Checked.the-variants as checked
+use Rattle.rules.specs.Records.{Run}
 use Rattle.extents.specs.Extents.{pointsEnd}
 use Rattle.file.specs.Rules.{checkedOf}
-use Rattle.file.specs.Holds.{Run, PartsHold}
+use Rattle.file.specs.Holds.{PartsHold}
 use Rattle.file.specs.Theorems.{accepted-holds}
 use Rattle.cursor.specs.Parts.{between, outlineIn, evlrsStart, Laid}
 

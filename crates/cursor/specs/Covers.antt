@@ -10,10 +10,10 @@ use lib.Dec.{ltb}
 use lib.ListN.{length, drop}
 use lib.Seq.{take-add, drop-drop}
 use Rattle.vlr.specs.Vlr.{recordSize}
-use Rattle.vlr.specs.Laws.{takes}
+use Rattle.vlr.specs.Laws.{all-there}
 use Rattle.outline.specs.declared.Outline.{Outline}
 use Rattle.extents.specs.Extents.{pointsEnd}
-use Rattle.file.specs.Holds.{Run}
+use Rattle.rules.specs.Records.{Run}
 use Rattle.cursor.specs.declared.Kind.{Kind}
 use Rattle.cursor.specs.declared.Kind.the-variants as kind
 use Rattle.cursor.specs.declared.Part.{Part}
@@ -46,11 +46,11 @@ module _ (s : List ℕ) (k : Kind) (extended : Bool) where
 
   -- what a cursor tells of records that are all there
   tells-records : (n at to : ℕ) (after : List Part) → Run extended n (between at to s) → recordsFrom s k extended n at to after ≡ recordParts k extended n at to s ++ after
-  unfolding recordsFrom recordParts recordSize
+  unfolding recordsFrom recordParts
   tells-records zero at to after r = refl
   tells-records (suc n) at to after (here, r) =
       let m = recordSize extended (between at to s) in
-      rw (takes extended (between at to s) m (record { size = refl; there = here }))
+      rw (all-there extended (between at to s) here)
       (ap (λ (ps : List Part). part k at m ∷ ps) (tells-records n (at + m) to after (others n at to r)))
 
 points-from : (o : Outline) → o .«offset_to_point_data» ≤ pointsEnd o

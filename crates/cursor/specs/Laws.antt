@@ -50,6 +50,16 @@ drop-between n from to s =
     let e : (to - from) - n ≡ to - (from + n) = omega arith in
     rw (drop-take, drop-drop, e)
 
+-- a gap that is there is told, and one that is not is passed
+module _ (at to : ℕ) (next : Cursor) (otherwise : Step) where
+  pub gap-told : at < to → pastGap at to next otherwise ≡ told kind.Gap at (to - at) next
+  unfolding pastGap
+  gap-told h = rw (lt-ltb at to h)
+
+  pub gap-passed : to ≤ at → pastGap at to next otherwise ≡ otherwise
+  unfolding pastGap
+  gap-passed h = rw (le-ltb at to h)
+
 module _ (s : List ℕ) where
   -- a gap, or what follows it
   past : (at to : ℕ) (next : Cursor) (otherwise : Step) (after : List Part) → leftOf s next ≡ after → toldBy (leftOf s) otherwise ≡ after → gap at to ++ after ≡ toldBy (leftOf s) (pastGap at to next otherwise)

@@ -1,5 +1,7 @@
+-- definitions
 pub mod Parts
 pub mod Cursor
+-- laws
 pub mod Laws
 pub mod Count
 pub mod Stays
@@ -7,4 +9,5 @@ pub mod Accepted
 pub mod Covers
 pub mod Each
 pub mod Started
+-- theorems
 pub mod Theorems

@@ -13,7 +13,7 @@ use Rattle.rules.specs.declared.Checked.the-variants.{Accepted, Refused}
 use Rattle.rules.specs.Rules.{Rule, first, formatBytes, headerRules}
 use Rattle.extents.specs.Steps.{Bounded}
 use Rattle.rules.specs.Laws.{format-bytes}
-use Rattle.extents.specs.Laws.{All, first-append, all-hold, accepted-all, refused-first}
+use Rattle.rules.specs.First.{All, first-append, all-hold, accepted-all, refused-first}
 
 module _ (xs ys : List Rule) (done : Checked) (n : ℕ) {x : Checked} (e : x ≡ first xs (Accepted n)) where
   -- a refusal of the first list is the answer of both

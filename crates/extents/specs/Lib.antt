@@ -1,3 +1,3 @@
+-- definitions
 pub mod Extents
 pub mod Steps
-pub mod Laws

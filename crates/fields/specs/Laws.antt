@@ -4,7 +4,7 @@ use mathlib.Core.Path.{_≡_, refl, sym, ap, _∙_}
 use mathlib.Core.List.{List, [], _∷_, _++_, append-assoc}
 use native.Mathlib.Omega.{arith}
 use lib.ListN.{length, take, drop, length-append}
-use lib.Seq.{sets, take-add, drop-drop, take-at, drop-at}
+use lib.Seq.{sets, length-sets, take-add, drop-drop, take-at, drop-at}
 use Rattle.lent.specs.Laws.{sets-append}
 use Rattle.fields.specs.Table.{part, total, Follow, starts, joined, All, none, _&_, Stored, done, store}
 
@@ -82,6 +82,10 @@ module _ {F : Type 0} (width : F → ℕ) (g : F → List ℕ) where
     pub stored-wide : {d r : List ℕ} {fs : List F} → Stored width place g d fs r → Wide fs
     stored-wide done = none
     stored-wide (store q w st) = w & stored-wide st
+
+    pub stored-length : {d r : List ℕ} {fs : List F} → Stored width place g d fs r → length r ≡ length d
+    stored-length done = refl
+    stored-length (store q w st) = stored-length st ∙ ap length q ∙ simp length-sets
 
     -- some fields, and then others
     pub then : {d e r : List ℕ} {xs ys : List F} → Stored width place g d xs e → Stored width place g e ys r → Stored width place g d (xs ++ ys) r

@@ -9,6 +9,7 @@ use lib.Dec.{T, eqb}
 use lib.ListN.{length, drop, length-drop}
 use lib.Seq.{length-take-le}
 use Rattle.vlr.specs.Vlr.{recordSize}
+use Rattle.vlr.specs.Laws.{record-least}
 use Rattle.header.specs.declared.HeaderAnswer.{HeaderAnswer}
 use Rattle.header.specs.declared.HeaderAnswer.the-variants as answer
 use Rattle.header.specs.Judged.{judged, readOf}
@@ -19,19 +20,14 @@ use Rattle.rules.specs.declared.Checked.the-variants.{Accepted, Refused}
 use Rattle.rules.specs.Rules.{Rule, refusedBy, first, headerRules, recordRules}
 use Rattle.extents.specs.Extents.{pointsEnd, vlrBytes, vlrRules, pointRule, evlrRules, partRules, outlineRules, recordsOf}
 use Rattle.file.specs.Rules.{readable, standardSize, rulesOf, checkedOf}
-use Rattle.extents.specs.Laws.{All}
-use Rattle.file.specs.Holds.{Run, PartsHold, some, records-hold, rules-hold}
+use Rattle.rules.specs.First.{All}
+use Rattle.rules.specs.Records.{Run, records-hold}
+use Rattle.file.specs.Holds.{PartsHold, some, rules-hold}
 
 -- the number of records found whole that an answer carries
 abbrev pub foundOf : Checked → ℕ
 foundOf (Accepted n) = n
 foundOf (Refused r k n) = n
-
--- a record has at least the bytes of a VLR's head
-record-least : (x : Bool) (rest : List ℕ) → 54 ≤ recordSize x rest
-unfolding recordSize
-record-least true rest = omega arith
-record-least false rest = omega arith
 
 pub run-bytes : (x : Bool) (k : ℕ) (rest : List ℕ) → Run x k rest → 54 * k ≤ length rest
 run-bytes x zero rest run = omega arith

@@ -1,5 +1,5 @@
 -- Rules 1 to 8 of document 01 as one conjunction, in ℕ and without an order; that the list of rules says the same.
-use Prim.Native.Nat.{ℕ, zero, suc, _+_, _≤_, _<_}
+use Prim.Native.Nat.{ℕ, _+_, _≤_, _<_}
 use mathlib.Core.Path.{_≡_, refl, sym, subst}
 use mathlib.Core.Bool.{Bool, true, false, cond, _||_}
 use mathlib.Core.List.{List, [], _∷_, _++_}
@@ -9,26 +9,20 @@ use borrow.Author.Tests.{lt-ltb, le-leb, ltb-true, leb-true, eqb-true, eqb-false
 use lib.Dec.{T, eqb, leb}
 use lib.ListN.{length, drop}
 use Rattle.refusal.specs.declared.Refusal.the-variants.{EvlrStart}
-use Rattle.le.specs.Laws.{num-take}
-use Rattle.vlr.specs.Layout.{headSize}
-use Rattle.vlr.specs.Vlr.{recordSize}
 use Rattle.header.specs.declared.HeaderAnswer.{HeaderAnswer}
 use Rattle.header.specs.declared.HeaderAnswer.the-variants as answer
 use Rattle.header.specs.Layout.{FileSignature, VersionMajor, VersionMinor, HeaderSize, fieldsOf, size}
-use Rattle.header.specs.Header.{part, number, lasf, headerOf}
-use Rattle.header.specs.Judged.{paddedTo, judged, readBy, readOf}
+use Rattle.header.specs.Header.{part, number, lasf}
+use Rattle.header.specs.Judged.{paddedTo, judged, readOf}
 use Rattle.header.specs.Laws.{accepted, whole, within}
+use Rattle.header.specs.Minor.{minor-read}
 use Rattle.outline.specs.declared.Outline.{Outline}
 use Rattle.outline.specs.Outline.{outlineOf}
 use Rattle.rules.specs.Rules.{Rule, rule, highestFormat, formatBytes, headerRules, recordRules}
 use Rattle.extents.specs.Extents.{pointsEnd, vlrBytes, vlrRules, pointRule, evlrRules, partRules, outlineRules}
 use Rattle.file.specs.Rules.{readable, standardSize, rulesOf}
-use Rattle.extents.specs.Laws.{All}
-
--- k records one after the other at the start of `rest`, each ending in it
-abbrev pub Run : Bool → ℕ → List ℕ → Type 0
-Run extended zero rest = Unit
-Run extended (suc k) rest = (recordSize extended rest ≤ length rest) × Run extended k (drop (recordSize extended rest) rest)
+use Rattle.rules.specs.First.{All, all-append, all-split}
+use Rattle.rules.specs.Records.{Run, records-hold, records-all}
 
 -- the standard size of the version that the bytes name
 abbrev pub standardIn : List ℕ → ℕ
@@ -94,40 +88,6 @@ judged-holds s p =
 pub holds-judged : (s : List ℕ) → HeaderHolds s → judged s ≡ answer.Whole (standardIn s) (paddedTo (standardIn s) (number HeaderSize s))
 holds-judged s h =
     whole s (record { signature = h .signature; major = h .major; minor = omega (arith, h .minor); block = refl; holds-block = h .standard-bytes; holds-field = h .field-bytes; end = refl })
-
--- and then the version is the bytes'
-minor-read : (s : List ℕ) {n e : ℕ} → judged s ≡ answer.Whole n e → readOf s .header .version .minor ≡ number VersionMinor s
-unfolding readOf readBy headerOf
-minor-read s {n} p = rw p (num-take 1 25 s n (omega (arith, within s p .0)))
-
--- two lists of rules together
-pub all-append : (xs ys : List Rule) → All xs → All ys → All (xs ++ ys)
-all-append [] ys a b = b
-all-append (x ∷ xs) ys (h, a) b = (h, all-append xs ys a b)
-
-pub all-split : (xs ys : List Rule) → All (xs ++ ys) → All xs × All ys
-all-split [] ys a = (tt, a)
-all-split (x ∷ xs) ys (h, a) = let p = all-split xs ys a in ((h, p .0), p .1)
-
--- a record's head is a part of it
-head-within : (x : Bool) (rest : List ℕ) → headSize x ≤ recordSize x rest
-unfolding recordSize
-head-within x rest = omega arith
-
--- the rules of records, and back
-pub records-hold : (x : Bool) (a n k : ℕ) (rest : List ℕ) → n ≤ a → All (recordRules x a n k rest) → (n + k ≤ a) × Run x k rest
-unfolding recordRules
-records-hold x a n zero rest h all = (omega arith, tt)
-records-hold x a n (suc k) rest h (allowed, (head, (whole, others))) =
-    let more : n < a = ltb-true n a allowed in
-    let later = records-hold x a (suc n) k (drop (recordSize x rest) rest) (omega arith) others in
-    (omega (arith, later .0), (leb-true _ _ whole, later .1))
-
-pub records-all : (x : Bool) (a n k : ℕ) (rest : List ℕ) → n + k ≤ a → Run x k rest → All (recordRules x a n k rest)
-unfolding recordRules
-records-all x a n zero rest h run = tt
-records-all x a n (suc k) rest h (whole, run) =
-    (lt-ltb n a (omega arith), (le-leb (headSize x) (length rest) (omega (arith, head-within x rest)), (le-leb _ _ whole, records-all x a (suc n) k (drop (recordSize x rest) rest) (omega arith) run)))
 
 module _ (n minor a : ℕ) (o : Outline) (s : List ℕ) where
   -- rule 8 and back

@@ -1,6 +1,9 @@
+-- definitions: the rules in their order, as one conjunction, and the format of the points; the last two with laws of them
 pub mod Rules
-pub mod Laws
 pub mod Holds
-pub mod Counts
-pub mod Theorems
 pub mod Points
+-- laws
+pub mod Laws
+pub mod Counts
+-- theorems
+pub mod Theorems

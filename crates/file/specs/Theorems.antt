@@ -10,8 +10,7 @@ use Rattle.outline.specs.Outline.{outlineOf}
 use Rattle.rules.specs.declared.Checked.the-variants.{Accepted, Refused}
 use Rattle.extents.specs.Extents.{recordsOf}
 use Rattle.file.specs.Rules.{rulesOf, checkedOf}
-use Rattle.extents.specs.Laws.{all-hold, accepted-all}
-use Rattle.file.specs.Laws.{FirstFailing, first-failing}
+use Rattle.rules.specs.First.{all-hold, accepted-all, FirstFailing, first-failing}
 use Rattle.file.specs.Holds.{Holds, rules-hold, rules-all}
 use Rattle.file.specs.Counts.{foundOf, count-fits}
 

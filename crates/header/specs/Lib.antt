@@ -7,6 +7,7 @@ pub mod Judged
 pub mod Window
 pub mod Laws
 pub mod Answers
+pub mod Minor
 pub mod Values
 -- theorems
 pub mod Theorems

@@ -9,6 +9,7 @@ ghost use Rattle.le.specs.Real.{f64BitsOf};
 ghost use Rattle.fields.specs.Table.{joined, Stored};
 ghost use Rattle.header.specs.Layout.{LegacyNumberOfPointsByReturn, NumberOfPointsByReturn, place, width, origin, contents, scales, bounds, large, fieldsOf};
 ghost use mathlib.Core.Bool.{cond};
+ghost use mathlib.Core.List.{_++_};
 ghost use Rattle.header.specs.Header.{noLarge};
 ghost use Rattle.header.specs.Judged.{standardOf};
 ghost use Rattle.header_write.specs.Bytes.{startBack, evlrBack, fieldBytes};
@@ -59,8 +60,7 @@ fn write_block(h: Header, dst: &mut [u8])
     let start = h.start_of_waveform_data_packet_record;
     write_origin(h, dst);
     write_contents(h, dst);
-    write_scales(h, dst);
-    write_bounds(h, dst);
+    write_floats(h, dst);
     if minor < 3 {
         return;
     }
@@ -75,17 +75,14 @@ fn write_block(h: Header, dst: &mut [u8])
 fn write_origin(h: Header, dst: &mut [u8])
     ensures { λ _. ⌜ Stored width place (fieldBytes h) (now (dst .entry)) origin (now (dst .exit)) ⌝ }
 {
-    let guid = h.guid;
-    let system_identifier = h.system_identifier;
-    let generating_software = h.generating_software;
     store::set_bytes(dst, 0, &header::LASF);
     store::set_u16(dst, 4, h.file_source_id);
     store::set_u16(dst, 6, h.global_encoding);
-    set_16(dst, 8, guid);
+    store::set_bytes(dst, 8, &h.guid);
     store::set_u8(dst, 24, h.version.major);
     store::set_u8(dst, 25, h.version.minor);
-    set_32(dst, 26, system_identifier);
-    set_32(dst, 58, generating_software);
+    store::set_bytes(dst, 26, &h.system_identifier);
+    store::set_bytes(dst, 58, &h.generating_software);
 }
 
 // What the file holds.
@@ -104,9 +101,9 @@ fn write_contents(h: Header, dst: &mut [u8])
     set_by_return(dst, by_return);
 }
 
-// How the points are scaled.
-fn write_scales(h: Header, dst: &mut [u8])
-    ensures { λ _. ⌜ Stored width place (fieldBytes h) (now (dst .entry)) scales (now (dst .exit)) ⌝ }
+// How the points are scaled, and where they lie.
+fn write_floats(h: Header, dst: &mut [u8])
+    ensures { λ _. ⌜ Stored width place (fieldBytes h) (now (dst .entry)) (scales ++ bounds) (now (dst .exit)) ⌝ }
 {
     let nans = h.nans;
     set_f64(dst, 131, h.x_scale_factor, nans.x_scale_factor);
@@ -115,13 +112,6 @@ fn write_scales(h: Header, dst: &mut [u8])
     set_f64(dst, 155, h.x_offset, nans.x_offset);
     set_f64(dst, 163, h.y_offset, nans.y_offset);
     set_f64(dst, 171, h.z_offset, nans.z_offset);
-}
-
-// Where the points lie.
-fn write_bounds(h: Header, dst: &mut [u8])
-    ensures { λ _. ⌜ Stored width place (fieldBytes h) (now (dst .entry)) bounds (now (dst .exit)) ⌝ }
-{
-    let nans = h.nans;
     set_f64(dst, 179, h.max_x, nans.max_x);
     set_f64(dst, 187, h.min_x, nans.min_x);
     set_f64(dst, 195, h.max_y, nans.max_y);
@@ -179,20 +169,6 @@ fn large_back(has_large_file: bool, large_file: LargeFile) -> LargeFile
         number_of_point_records: 0,
         number_of_points_by_return: [0; 15],
     }
-}
-
-// Stores an array of 16 bytes, and tells its length.
-fn set_16(d: &mut [u8], at: usize, v: [u8; 16])
-    ensures { λ _. ⌜ (now (d .exit) ≡ sets (now (d .entry)) at v) × (length v ≡ 16) ⌝ }
-{
-    store::set_bytes(d, at, &v)
-}
-
-// Stores an array of 32 bytes, and tells its length.
-fn set_32(d: &mut [u8], at: usize, v: [u8; 32])
-    ensures { λ _. ⌜ (now (d .exit) ≡ sets (now (d .entry)) at v) × (length v ≡ 32) ⌝ }
-{
-    store::set_bytes(d, at, &v)
 }
 
 // Stores a float by its pattern, from its value and what is kept beside it.

@@ -1,1 +1,2 @@
+-- definitions, with two laws of them
 pub mod Outline

@@ -1,5 +1,6 @@
 -- What a header says of the parts of its file.
 use Prim.Native.Nat.{ℕ}
+use mathlib.Core.Path.{_≡_, refl}
 use Rattle.header.specs.declared.Header.{Header}
 use Rattle.header.specs.declared.OptionEvlr.{OptionEvlr}
 use Rattle.header.specs.declared.OptionEvlr.the-variants as pair
@@ -28,3 +29,13 @@ outlineOf h =
       «start_of_first_evlr» = evlrStart (h .evlr);
       «number_of_evlrs» = evlrCount (h .evlr);
     }
+
+-- two of them, for whoever has the header
+module _ (h : Header) where
+  pub header-size-is : outlineOf h .«header_size» ≡ h .«header_size»
+  unfolding outlineOf
+  header-size-is = refl
+
+  pub record-length-is : outlineOf h .«point_data_record_length» ≡ h .«point_data_record_length»
+  unfolding outlineOf
+  record-length-is = refl

@@ -1,3 +1,6 @@
+-- definitions
 pub mod Table
+-- laws
 pub mod Laws
+-- theorems
 pub mod Theorems

@@ -1,30 +1,25 @@
 -- Of bytes, what stands for a part is the part itself, but for the header's EVLR pair.
 use Prim.Native.Nat.{ℕ, zero, suc, _+_, _*_, _≤_}
-use mathlib.Core.Path.{_≡_, ap, sym, _∙_}
-use mathlib.Core.Bool.{Bool, true, false}
+use mathlib.Core.Path.{_≡_, ap, _∙_}
+use mathlib.Core.Bool.{Bool}
 use mathlib.Core.Logic.{_⊎_}
 use mathlib.Core.List.{List, _++_}
 use native.Mathlib.Nat.{suc-mul, zero-mul}
 use native.Mathlib.Omega.{arith}
-use borrow.Author.Tests.{le-ltb}
 use lib.ListN.{length, take, drop, replicate, length-drop}
 use lib.Seq.{take-add, take-all, take-length, length-take-le}
 use Rattle.le.specs.Le.{Bytes}
-use Rattle.le.specs.Laws.{bytes-take, bytes-drop, num-take}
+use Rattle.le.specs.Laws.{bytes-take, bytes-drop}
 use Rattle.format.specs.declared.Format.{Format}
 use Rattle.format.specs.declared.FormatLen.the-variants as len
 use Rattle.format.specs.Fields.{lenOf, recordBytes}
 use Rattle.format.specs.Laws.{len-is}
 use Rattle.point.specs.declared.PointRead.the-variants.{Is}
-use Rattle.point.specs.Read.{pointOf, sizedOf, readAfter, readOf, extraOf}
+use Rattle.point.specs.Read.{pointOf, extraOf}
+use Rattle.point.specs.Answer.{answered, whole-read}
 use Rattle.point_write.specs.Write.{recordOf}
-use Rattle.point_write.specs.Answered.{answered}
 use Rattle.point_write.specs.Theorems.{read-then-written}
-use Rattle.vlr.specs.declared.RecordLength.{RecordLength}
-use Rattle.vlr.specs.declared.RecordLength.the-variants as kind
-use Rattle.vlr.specs.Layout.{headSize}
-use Rattle.vlr.specs.Vlr.{dataLength, lengthOf, recordSize}
-use Rattle.vlr.specs.Vlr as vlr-read
+use Rattle.vlr.specs.Vlr.{recordSize}
 use Rattle.vlr.specs.Laws as vlr
 use Rattle.vlr.specs.Heads.{record-back}
 use Rattle.header.specs.Layout.{VersionMinor, StartOfFirstEvlr, NumberOfEvlrs}
@@ -36,16 +31,13 @@ use Rattle.rewrite.specs.Asked.{HeaderPart, VlrPart, PointPart, PointsPa
 
 -- a whole record is read, and what stands for it is the writer's bytes of that point
 module _ (f : Format) (s : List ℕ) (whole : PointPart f s) where
-  pub point-read : readOf f s ≡ Is (pointOf f s)
-  unfolding readOf sizedOf
-  point-read = ap (readAfter f s) whole ∙ rw (le-ltb (length s) (length s) (omega arith))
-
   pub point-same : Bytes s → pointBack f s ≡ s
   unfolding pointBack
   point-same bytes =
       let size : length s ≡ recordBytes f = len-is f (length s) whole in
-      let a = answered f s (pointOf f s) point-read in
-      ap (pointBy f (extraOf f s)) point-read
+      let read = whole-read f s whole in
+      let a = answered f s (pointOf f s) read in
+      ap (pointBy f (extraOf f s)) read
       ∙ ap (recordOf f (pointOf f s)) (a .extra)
       ∙ read-then-written f s bytes (a .room)
       ∙ take-all (recordBytes f) s (omega arith)
@@ -64,11 +56,6 @@ points-same f m (suc k) s long h bytes =
 pub part-same : (f : Format) (m k : ℕ) (s : List ℕ) → PointsPart f m k s → Bytes s → pointsBack f m k s ≡ s
 part-same f m k s whole bytes = points-same f m k s (whole .0) (omega (arith, whole .1)) bytes ∙ take-all (k * m) s (omega (arith, whole .1))
 
--- a record's length stands in its head
-length-cut : (extended : Bool) (s : List ℕ) (n : ℕ) → headSize extended ≤ n → lengthOf extended (take n s) ≡ lengthOf extended s
-length-cut true s n h = ap kind.Evlr (num-take 8 20 s n (omega arith))
-length-cut false s n h = ap kind.Vlr (num-take 2 20 s n (omega arith))
-
 pub vlr-same : (extended : Bool) (s : List ℕ) → VlrPart extended s → Bytes s → vlrBack extended s ≡ s
 unfolding vlrBack
 vlr-same extended s whole bytes =
@@ -78,11 +65,7 @@ vlr-same extended s whole bytes =
 
 -- a record that ends in the bytes, cut from them, is whole
 pub record-whole : (extended : Bool) (s : List ℕ) → recordSize extended s ≤ length s → VlrPart extended (take (recordSize extended s) s)
-unfolding recordSize vlr-read.readOf
-record-whole extended s h =
-    let n = headSize extended + dataLength (lengthOf extended s) in
-    let long : length (take n s) ≡ n = length-take-le n s h in
-    rw long (vlr.takes extended (take n s) n (record { size = ap (λ (l : RecordLength). headSize extended + dataLength l) (sym (length-cut extended s n (omega arith))); there = omega arith }))
+record-whole extended s h = rw (length-take-le (recordSize extended s) s h) (vlr.read-cut extended s h)
 
 -- the header, by its EVLR pair
 module _ (s : List ℕ) (whole : HeaderPart s) (bytes : Bytes s) where

@@ -1,21 +1,19 @@
 -- The parts of an accepted file cover it and are whole, and only the first is a header.
 use Prim.Native.Nat.{ℕ, _-_, _≤_}
 use mathlib.Core.Path.{_≡_, refl, sym, subst, _∙_}
-use mathlib.Core.Bool.{Bool, true, false, cond}
+use mathlib.Core.Bool.{Bool, true, false}
 use mathlib.Core.List.{List}
 use native.Mathlib.Omega.{arith}
-use borrow.Author.Tests.{ltb-false}
-use lib.Dec.{ltb}
 use lib.ListN.{length, take, drop, length-drop}
 use lib.Seq.{take-take, length-take-le}
 use Rattle.le.specs.Le.{Bytes}
-use Rattle.le.specs.Laws.{num-take}
 use Rattle.vlr.specs.Vlr.{recordSize}
 use Rattle.header.specs.Layout.{HeaderSize}
-use Rattle.header.specs.Header.{number, headerOf}
-use Rattle.header.specs.Judged.{readBy, readOf, paddedTo}
+use Rattle.header.specs.Header.{number}
+use Rattle.header.specs.Judged.{readOf, paddedTo}
+use Rattle.header.specs.Answers.{size-read, padded-field}
 use Rattle.header.specs.Laws.{within, agreed}
-use Rattle.outline.specs.Outline.{outlineOf}
+use Rattle.outline.specs.Outline.{header-size-is}
 use Rattle.rules.specs.declared.Checked.the-variants as checked
 use Rattle.extents.specs.Extents.{pointsEnd}
 use Rattle.file.specs.Rules.{checkedOf}
@@ -32,19 +30,11 @@ use Rattle.rewrite.specs.Laws.{record-whole}
 use Rattle.rewrite.specs.Whole.{NoHeader}
 
 module _ (allowance : ℕ) (s : List ℕ) (h : Holds allowance s) where
-  -- the header's fields are those of the file's bytes
-  field-is : outlineIn s .«header_size» ≡ number HeaderSize s
-  unfolding outlineOf readOf readBy headerOf
-  field-is = let p = holds-judged s (h .header) in rw p (num-take 2 94 s (standardIn s) (omega (arith, within s p .0)))
-
-  -- so the header with its padding ends where the header-size field says
+  -- the header with its padding ends where the header-size field says
   ends-at : paddedTo (standardIn s) (number HeaderSize s) ≡ outlineIn s .«header_size»
-  unfolding paddedTo
-  ends-at = go (ltb (standardIn s) (number HeaderSize s)) refl ∙ sym field-is
-    where
-      go : (b : Bool) → ltb (standardIn s) (number HeaderSize s) ≡ b → cond b (number HeaderSize s) (standardIn s) ≡ number HeaderSize s
-      go true e = refl
-      go false e = omega (arith, ltb-false (standardIn s) (number HeaderSize s) e, h .parts .header-size, field-is)
+  ends-at =
+      let field : outlineIn s .«header_size» ≡ number HeaderSize s = header-size-is (readOf s .header) ∙ size-read s (holds-judged s (h .header)) in
+      padded-field (standardIn s) (number HeaderSize s) (omega (arith, h .parts .header-size)) ∙ sym field
 
   pub header-whole : HeaderPart (take (outlineIn s .«header_size») s)
   header-whole =

@@ -5,10 +5,9 @@ use mathlib.Core.Logic.{_⊎_}
 use mathlib.Core.List.{List, [], _∷_, _++_, append-assoc}
 use native.Mathlib.Omega.{arith}
 use borrow.Author.Tests.{le-leb, lt-leb}
-use lib.ListN.{length, take, drop, replicate, take-append-drop, length-append}
+use lib.ListN.{length, take, drop, replicate, length-append}
 use lib.Seq.{take-at, drop-at}
 use Rattle.le.specs.Le.{Bytes}
-use Rattle.le.specs.Laws.{bytes-take}
 use Rattle.refusal.specs.declared.Refusal.{Refusal}
 use Rattle.refusal.specs.declared.Refusal.the-variants.{NoRoom}
 use Rattle.header.specs.Layout.{VersionMinor, StartOfFirstEvlr, NumberOfEvlrs}
@@ -23,10 +22,10 @@ use Rattle.cursor.specs.declared.Part.{Part}
 use Rattle.cursor.specs.Parts.{outlineIn, bodyOf, partsOf, bytesOf}
 use Rattle.cursor.specs.Each.{header-first}
 use Rattle.rewrite.specs.declared.Rewrote.the-variants as rewrote
-use Rattle.rewrite.specs.Back.{partBack}
-use Rattle.rewrite.specs.Pair.{written, paired-same, zero-cleared}
+use Rattle.rewrite.specs.Back.{headerBack, partBack}
+use Rattle.rewrite.specs.Pair.{paired-same, zero-cleared}
 use Rattle.rewrite.specs.Rewritten.{backOf, rewrittenOf}
-use Rattle.rewrite.specs.Asked.{Tiles}
+use Rattle.rewrite.specs.Asked.{HeaderPart, Tiles}
 use Rattle.rewrite.specs.Whole.{first-ends, length-back, length-tiles, whole-same}
 use Rattle.rewrite.specs.Sound.{header-whole, file-tiles, no-header-after}
 
@@ -72,27 +71,27 @@ module _ (allowance : ℕ) (s : List ℕ) (bytes : Bytes s) {n : ℕ} (p : check
   unfolding rewrittenOf
   left = rw (p, le-leb (length s) (length d) room)
 
-  begins : rewrittenOf allowance s d .1 ≡ written s ++ drop (length s) d
-  begins =
-      let tiles = rw header-first at (file-tiles allowance s p bytes) in
-      let same : backOf (outlineIn s) s (partsOf (outlineIn s) s) ≡ written s = rw header-first (whole-same (outlineIn s) s bytes (outlineIn s .«header_size») (bodyOf (outlineIn s) s) tiles (no-header-after allowance s p)) in
-      left ∙ ap (λ (l : List ℕ). l ++ drop (length s) d) same
+  abbrev size : ℕ
+  size = outlineIn s .«header_size»
+
+  header : HeaderPart (take size s)
+  header = header-whole allowance s (accepted-holds allowance s p)
+
+  begins : {bs : List ℕ} → headerBack (take size s) ++ drop size s ≡ bs → rewrittenOf allowance s d .1 ≡ bs ++ drop (length s) d
+  begins is =
+      let same = whole-same (outlineIn s) s bytes size (bodyOf (outlineIn s) s) (rw header-first at (file-tiles allowance s p bytes)) (no-header-after allowance s p) in
+      left ∙ rw header-first (ap (λ (l : List ℕ). l ++ drop (length s) d) (same ∙ is))
 
   long : length (backOf (outlineIn s) s (partsOf (outlineIn s) s)) ≡ length s
   long = omega (arith, length-tiles (outlineIn s) s bytes 0 (partsOf (outlineIn s) s) (file-tiles allowance s p bytes))
 
   -- "the destination begins with the same bytes", where both or neither of the EVLR pair are zero, and in versions without one;
   pub same-bytes : (number VersionMinor s ≡ 4 → Paired (number StartOfFirstEvlr s) (number NumberOfEvlrs s)) → rewrittenOf allowance s d .1 ≡ s ++ drop (length s) d
-  same-bytes paired =
-      let size = outlineIn s .«header_size» in
-      let split = take-append-drop size s in
-      let whole = header-whole allowance s (accepted-holds allowance s p) in
-      begins ∙ ap (λ (l : List ℕ). l ++ drop (length s) d)
-      (ap written (sym split) ∙ paired-same (take size s) whole (bytes-take size s bytes) (drop size s) (rw split paired) ∙ split)
+  same-bytes paired = begins (paired-same size s header bytes paired)
 
   -- "but an EVLR pair with one zero becomes two zeros", in bytes 235 to 246;
   pub half-zero : number VersionMinor s ≡ 4 → (number StartOfFirstEvlr s ≡ 0) ⊎ (number NumberOfEvlrs s ≡ 0) → rewrittenOf allowance s d .1 ≡ (take 235 s ++ (replicate 12 0 ++ drop 247 s)) ++ drop (length s) d
-  half-zero four half = begins ∙ ap (λ (l : List ℕ). l ++ drop (length s) d) (zero-cleared s four half)
+  half-zero four half = begins (zero-cleared size s header bytes four half)
 
   -- "bytes past the file's length in the destination stay";
   pub past-stays : drop (length s) (rewrittenOf allowance s d .1) ≡ drop (length s) d

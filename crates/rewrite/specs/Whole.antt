@@ -2,10 +2,10 @@
 use Prim.Native.Nat.{ℕ, _+_, _-_, _≤_}
 use mathlib.Core.Path.{_≡_, refl, ap, _∙_}
 use mathlib.Core.Bool.{Bool, true, false}
-use mathlib.Core.List.{List, [], _∷_}
+use mathlib.Core.List.{List, [], _∷_, _++_}
 use native.Mathlib.Omega.{arith}
 use native.Mathlib.Nat.{zero-add}
-use lib.ListN.{length, take, drop, length-append, length-drop, take-append-drop}
+use lib.ListN.{length, take, drop, length-append, length-drop}
 use lib.Seq.{take-all, length-take-le}
 use Rattle.le.specs.Le.{Bytes}
 use Rattle.le.specs.Laws.{bytes-take, bytes-drop}
@@ -13,9 +13,9 @@ use Rattle.outline.specs.declared.Outline.{Outline}
 use Rattle.cursor.specs.declared.Part.{Part}
 use Rattle.cursor.specs.declared.Kind.{Kind}
 use Rattle.cursor.specs.declared.Kind.the-variants.{Header, Vlr, Gap, Points, Evlr}
-use Rattle.rewrite.specs.Back.{partBack}
+use Rattle.rewrite.specs.Back.{headerBack, partBack}
 use Rattle.rewrite.specs.Laws.{part-same, vlr-same}
-use Rattle.rewrite.specs.Pair.{written, header-written, length-written, written-append}
+use Rattle.rewrite.specs.Pair.{length-header}
 use Rattle.cursor.specs.Parts.{part, Covers, Each, bytesOf, joined}
 use Rattle.cursor.specs.Covers.{covers-up, joined-is}
 use Rattle.rewrite.specs.Rewritten.{backOf}
@@ -44,7 +44,7 @@ module _ (o : Outline) where
   -- and what stands for any has its length
   pub part-length : (k : Kind) (t : List ℕ) → PartIs o k t → Bytes t → length (partBack o k t) ≡ length t
   unfolding partBack PartIs
-  part-length Header t whole bytes = ap length (header-written t whole bytes) ∙ length-written t whole
+  part-length Header t whole bytes = length-header t whole bytes
   part-length Vlr t whole bytes = ap length (vlr-same false t whole bytes)
   part-length Gap t whole bytes = refl
   part-length Points t whole bytes = ap length (part-same _ _ _ t whole bytes)
@@ -77,9 +77,7 @@ module _ (o : Outline) where
     back-joined (p ∷ ps) (whole, w) (body, none) = rw (body-same (p .kind) (bytesOf s p) whole (bytes-part p) body, back-joined ps w none)
 
     -- the header and all that follows it
-    pub whole-same : (n : ℕ) (ps : List Part) → Tiles o s 0 (part Header 0 n ∷ ps) → Each NoHeader ps → backOf o s (part Header 0 n ∷ ps) ≡ written s
+    pub whole-same : (n : ℕ) (ps : List Part) → Tiles o s 0 (part Header 0 n ∷ ps) → Each NoHeader ps → backOf o s (part Header 0 n ∷ ps) ≡ headerBack (take n s) ++ drop n s
     unfolding backOf partBack PartIs
     whole-same n ps ((e, c), (whole, w)) none =
-        let rest : backOf o s ps ≡ drop n s = back-joined ps w none ∙ joined-is s n (length s) ps (rw zero-add at c) ∙ take-all (length s - n) (drop n s) (simp length-drop (omega arith)) in
-        rw (header-written (take n s) whole (bytes-take n s bytes), rest)
-        (written-append (take n s) whole (drop n s) ∙ ap written (take-append-drop n s))
+        rw (back-joined ps w none, joined-is s n (length s) ps (rw zero-add at c), take-all (length s - n) (drop n s) (simp length-drop (omega arith)))

@@ -13,13 +13,14 @@ use Rattle.refusal.specs.declared.Refusal.the-variants.{Index}
 use Rattle.format.specs.Fields.{recordBytes}
 use Rattle.point.specs.declared.PointRead.the-variants.{Is}
 use Rattle.point.specs.Read.{pointOf, readOf}
+use Rattle.point.specs.Answer.{read-whole}
 use Rattle.walker.specs.declared.Start.the-variants as start
 use Rattle.walker.specs.declared.Place.{Place}
 use Rattle.walker.specs.declared.Walked.{Walked}
 use Rattle.walker.specs.declared.Walked.the-variants.{Point, Refused}
 use Rattle.walker.specs.declared.Walker.{Walker}
 use Rattle.walker.specs.Walk.{hasNext, recordOf, refusalOf, after, tookOf, nextOf}
-use Rattle.walker.specs.Laws.{read-whole, next-says}
+use Rattle.walker.specs.Laws.{next-says}
 
 -- a walker after n answers, and its n-th answer, counted from 0
 abbrev pub walkedOn : ℕ → Walker → Walker

@@ -4,7 +4,7 @@ use lib.ListN.{length}
 use Rattle.rules.specs.declared.Checked.the-variants.{Accepted}
 use Rattle.rules.specs.Rules.{headerRules}
 use Rattle.extents.specs.Extents.{partRules, outlineRules, recordsOf}
-use Rattle.extents.specs.Laws.{accepted-all}
+use Rattle.rules.specs.First.{accepted-all}
 use Rattle.extents.proofs.Then.{then-refused, then-accepted, bounded}
 use Rattle.extents.proofs.check.Statement.{statement}
 use Rattle.extents.proofs.check.Tie as tie

@@ -2,8 +2,7 @@ use mathlib.Core.Path.{_≡_, sym, _∙_}
 use native.Mathlib.Omega.{arith}
 use borrow.Author.Needs.{needs}
 use Rattle.format.specs.Fields.{recordBytes}
-use Rattle.format.specs.Laws.{len-is}
-use Rattle.file.specs.Laws.{len-over}
+use Rattle.format.specs.Length.{len-is, len-over}
 use Rattle.file.proofs.beyond.Statement.{statement}
 use Rattle.file.proofs.beyond.Tie as tie
 
@@ -11,7 +10,7 @@ use Rattle.file.proofs.beyond.Tie as tie
 returns : tie.Need-returns
 returns c =
     let m = c .before .before in
-    omega (arith, len-over (m .before .args .format) (sym (m .len .ensures) ∙ c .enum-told .given .1), m .before .fits)
+    omega (arith, len-over (m .before .args .format) _ (sym (m .len .ensures) ∙ c .enum-told .given .1), m .before .fits)
 
 -- the length that was found is the format's
 own : (c : tie.After-n) → c .n .given .0 .0 ≡ recordBytes (c .before .before .before .args .format)

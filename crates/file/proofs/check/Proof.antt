@@ -3,9 +3,10 @@ use borrow.Author.Needs.{needs}
 use Rattle.header.specs.declared.HeaderRead.{HeaderRead}
 use Rattle.header.specs.declared.HeaderAnswer.the-variants.{Whole, Refused}
 use Rattle.header.specs.Judged.{judged}
+use Rattle.header.specs.Answers.{answer-is}
 use Rattle.rules.specs.Rules.{first}
 use Rattle.file.specs.Rules.{readable, standardSize, rulesOf, checkedOf}
-use Rattle.file.specs.Laws.{answer-is, header-number}
+use Rattle.file.specs.Laws.{header-number}
 use Rattle.file.proofs.check.Statement.{statement}
 use Rattle.file.proofs.check.Tie as tie
 

@@ -12,13 +12,10 @@ use Rattle.header_write.specs.Bytes.{fieldBytes}
 use Rattle.header_write.proofs.write_block.Statement.{statement}
 use Rattle.header_write.proofs.write_block.Tie as tie
 
--- where the bounds are stored, all is that every version has
-module _ (b : tie.After-write-bounds) where
-  abbrev scaled : tie.After-write-scales
-  scaled = b .before .before .before .before
-
+-- where the floats are stored, all is that every version has
+module _ (b : tie.After-write-floats) where
   abbrev held : tie.After-write-contents
-  held = scaled .before .before .before .before
+  held = b .before .before .before .before
 
   abbrev come : tie.After-write-origin
   come = held .before .before .before .before
@@ -26,21 +23,20 @@ module _ (b : tie.After-write-bounds) where
   abbrev begun : tie.Start
   begun = come .before .before .before
 
-  upTo12 : Stored width place (fieldBytes (begun .args .h)) (begun .args .dst .now) fields12 (b .write-bounds .last .1 .0)
+  upTo12 : Stored width place (fieldBytes (begun .args .h)) (begun .args .dst .now) fields12 (b .write-floats .last .1 .0)
   upTo12 =
       let g = fieldBytes (begun .args .h) in
-      then width g place (come .write-origin .ensures)
-      (then width g place (held .write-contents .ensures) (then width g place (scaled .write-scales .ensures) (b .write-bounds .ensures)))
+      then width g place (come .write-origin .ensures) (then width g place (held .write-contents .ensures) (b .write-floats .ensures))
 
 -- and where the waveform start is stored, what 1.3 adds
 module _ (w : tie.After-set-u64) where
-  abbrev bound : tie.After-write-bounds
+  abbrev bound : tie.After-write-floats
   bound = w .before .before .before .before .before .before
 
   upTo13 : Stored width place (fieldBytes (begun bound .args .h)) (begun bound .args .dst .now) fields13 (w .set-u64 .last .0)
   upTo13 =
       then width (fieldBytes (begun bound .args .h)) place (upTo12 bound)
-      (store (w .set-u64 .ensures ∙ ap (λ (k : ℕ). sets (bound .write-bounds .last .1 .0) 227 (bytes 8 k)) (w .before .start-back .ensures)) refl done)
+      (store (w .set-u64 .ensures ∙ ap (λ (k : ℕ). sets (bound .write-floats .last .1 .0) 227 (bytes 8 k)) (w .before .start-back .ensures)) refl done)
 
 returns : tie.Need-returns
 returns c = rw (lt-ltb _ _ (c .if1 .taken)) (upTo12 (c .before .before .before))
@@ -60,6 +56,6 @@ pub write-block-spec : {M : Type 1} → statement M
 write-block-spec =
     tie.close
     (tie.spec
-    (λ c κs. search needs) (λ c κs. search needs) (λ c κs. search needs) (λ c κs. search needs) (λ c. search needs)
-    returns (λ c κs. search needs) (λ c κs. search needs) (λ c. search needs) returns-2 (λ c κs. search needs)
+    (λ c κs. search needs) (λ c κs. search needs) (λ c κs. search needs) (λ c. search needs) returns
+    (λ c κs. search needs) (λ c κs. search needs) (λ c. search needs) returns-2 (λ c κs. search needs)
     (λ c. search needs) returns-3)

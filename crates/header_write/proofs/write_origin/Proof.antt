@@ -1,39 +1,47 @@
 use Prim.Native.Nat.{_<_}
-use mathlib.Core.Path.{refl, ap, _∙_}
-use lib.Seq.{sets}
+use mathlib.Core.Path.{_≡_, refl, ap, _∙_}
 use borrow.Author.Needs.{needs}
+use lib.ListN.{length}
+use lib.Seq.{sets}
 use Rattle.le.specs.Laws.{one-byte}
 use Rattle.fields.specs.Table.{store, done}
+use Rattle.fields.specs.Laws.{stored-length}
 use Rattle.header_write.proofs.write_origin.Statement.{statement}
 use Rattle.header_write.proofs.write_origin.Tie as tie
 
-version-fits : (s : tie.Start) → (s .args .h .version .major < 256) × (s .args .h .version .minor < 256)
-version-fits s = search needs
+-- what the header's types say of it
+module _ (s : tie.Start) where
+  version-fits : (s .args .t1 .version .major < 256) × (s .args .t1 .version .minor < 256)
+  version-fits = search needs
+
+  texts : (length (s .args .t1 .guid) ≡ 16) × (length (s .args .t1 .«system_identifier») ≡ 32) × (length (s .args .t1 .«generating_software») ≡ 32)
+  texts = search needs
 
 returns : tie.Need-returns
 returns c =
-    let c6 = c .before .before .before .before .before .before in
-    let c10 = c6 .before .before .before .before in
-    let c14 = c10 .before .before .before .before in
-    let c18 = c14 .before .before .before .before in
-    let c22 = c18 .before .before .before .before in
-    let c26 = c22 .before .before .before .before in
-    let c30 = c26 .before .before .before .before in
-    let s = c30 .before .before .before .before .before .before .before in
-    let v = s .args .h .version in
-    store (c30 .set-bytes .ensures) refl
-    (store (c26 .set-u16 .ensures) refl
-    (store (c22 .set-u162 .ensures) refl
-    (store (c18 .set-16 .ensures .0) (c18 .set-16 .ensures .1)
-    (store (c14 .set-u8 .ensures ∙ ap (sets (c18 .set-16 .last .0) 24) (one-byte (v .major) (version-fits s .0))) refl
-    (store (c10 .set-u82 .ensures ∙ ap (sets (c14 .set-u8 .last .0) 25) (one-byte (v .minor) (version-fits s .1))) refl
-    (store (c6 .set-32 .ensures .0) (c6 .set-32 .ensures .1)
-    (store (c .before .before .set-322 .ensures .0) (c .before .before .set-322 .ensures .1) done)))))))
+    let software = c .before .before in
+    let system = software .before .before .before .before .before .before .before in
+    let minor = system .before .before .before .before .before .before .before in
+    let major = minor .before .before .before .before in
+    let guid = major .before .before .before .before in
+    let encoding = guid .before .before .before .before .before .before .before in
+    let source = encoding .before .before .before .before in
+    let signature = source .before .before .before .before in
+    let s = signature .before .before .before .before in
+    let v = s .args .t1 .version in
+    store (signature .set-bytes .ensures) refl
+    (store (source .set-u16 .ensures) refl
+    (store (encoding .set-u162 .ensures) refl
+    (store (guid .set-bytes2 .ensures) (texts s .0)
+    (store (major .set-u8 .ensures ∙ ap (sets (guid .set-bytes2 .last .0) 24) (one-byte (v .major) (version-fits s .0))) refl
+    (store (minor .set-u82 .ensures ∙ ap (sets (major .set-u8 .last .0) 25) (one-byte (v .minor) (version-fits s .1))) refl
+    (store (system .set-bytes3 .ensures) (texts s .1)
+    (store (software .set-bytes4 .ensures) (texts s .2) done)))))))
 
 pub write-origin-spec : {M : Type 1} → statement M
 write-origin-spec =
     tie.close
     (tie.spec
     (λ c. search needs) (λ c κs. search needs) (λ c κs. search needs) (λ c κs. search needs) (λ c κs. search needs)
-    (λ c κs. search needs) (λ c κs. search needs) (λ c κs. search needs) (λ c κs. search needs) (λ c. search needs)
-    returns)
+    (λ c κs. search needs) (λ c κs. search needs) (λ c κs. search needs) (λ c κs. search needs)
+    (λ c. stored-length _ _ _ (returns c)) returns)

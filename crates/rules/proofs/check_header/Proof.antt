@@ -10,40 +10,24 @@ use Rattle.rules.proofs.check_header.Tie as tie
 
 ruleset header-tests = (le-ltb, lt-ltb, le-leb, lt-leb, uncompressed)
 
-returns : tie.Need-returns
-unfolding headerRules first recordNumber
-returns c = c .refused .ensures ∙ search tests
-
-returns-2 : tie.Need-returns-2
-unfolding headerRules first recordNumber
-returns-2 c = c .refused2 .ensures ∙ search tests
-
-returns-3 : tie.Need-returns-3
-unfolding headerRules first recordNumber
-returns-3 c = c .refused3 .ensures ∙ search tests
-
-returns-4 : tie.Need-returns-4
-unfolding headerRules first recordNumber
-returns-4 c = c .refused4 .ensures ∙ rw (← (c .before .before .highest-format .ensures)) (search header-tests)
-
-returns-5 : tie.Need-returns-5
-unfolding headerRules first recordNumber
-returns-5 c = c .refused5 .ensures ∙ rw (← (c .before .before .before .before .before .before .highest-format .ensures), ← (c .before .before .before .before .format-length .ensures)) (search header-tests)
-
-returns-6 : tie.Need-returns-6
-unfolding headerRules first recordNumber
-returns-6 c = c .refused6 .ensures ∙ rw (← (c .before .before .before .before .before .before .before .before .highest-format .ensures), ← (c .before .before .before .before .before .before .format-length .ensures)) (search header-tests)
-
-returns-7 : tie.Need-returns-7
-unfolding headerRules first recordNumber
-returns-7 c = c .refused7 .ensures ∙ rw (← (c .before .before .before .before .before .before .before .before .before .before .highest-format .ensures), ← (c .before .before .before .before .before .before .before .before .format-length .ensures)) (search header-tests)
-
-returns-8 : tie.Need-returns-8
-unfolding headerRules first recordNumber
-returns-8 c = rw (← (c .before .before .before .before .before .before .before .before .before .highest-format .ensures), ← (c .before .before .before .before .before .before .before .format-length .ensures)) (search header-tests)
+-- after the format's length is known: the bytes of a record and the place of the points
+module _ (c : tie.After-format-length) where
+  abbrev version : tie.After-highest-format
+  version = c .before .before
 
 pub check-header-spec : {M : Type 1} → statement M
+unfolding headerRules first recordNumber
 check-header-spec =
     tie.close
     (tie.spec
-    (λ c. search needs) (λ c κs. search needs) returns (λ c κs. search needs) returns-2 (λ c κs. search needs) returns-3 (λ c κs. search needs) (λ c κs. search needs) returns-4 (λ c κs. search needs) (λ c. search needs) (λ c κs. search needs) returns-5 (λ c. search needs) (λ c κs. search needs) returns-6 (λ c. search needs) (λ c κs. search needs) returns-7 returns-8)
+    (λ c. search needs) (λ c κs. search needs) (λ c. c .refused .ensures ∙ search tests)
+    (λ c κs. search needs) (λ c. c .refused2 .ensures ∙ search tests)
+    (λ c κs. search needs) (λ c. c .refused3 .ensures ∙ search tests)
+    (λ c κs. search needs) (λ c κs. search needs) (λ c. c .refused4 .ensures ∙ rw (← (c .before .before .highest-format .ensures)) (search header-tests))
+    (λ c κs. search needs) (λ c. search needs) (λ c κs. search needs)
+    (λ c. let l = c .before .before .before .before in c .refused5 .ensures ∙ rw (← (version l .highest-format .ensures), ← (l .format-length .ensures)) (search header-tests))
+    (λ c. search needs) (λ c κs. search needs)
+    (λ c. let l = c .before .before .before .before .before .before in c .refused6 .ensures ∙ rw (← (version l .highest-format .ensures), ← (l .format-length .ensures)) (search header-tests))
+    (λ c. search needs) (λ c κs. search needs)
+    (λ c. let l = c .before .before .before .before .before .before .before .before in c .refused7 .ensures ∙ rw (← (version l .highest-format .ensures), ← (l .format-length .ensures)) (search header-tests))
+    (λ c. let l = c .before .before .before .before .before .before .before in rw (← (version l .highest-format .ensures), ← (l .format-length .ensures)) (search header-tests)))

@@ -1,11 +1,9 @@
 use mathlib.Core.Path.{sym, _∙_}
 use borrow.Author.Needs.{needs}
-use borrow.Author.Tests.{le-ltb, lt-ltb, lt-leb}
+use borrow.Author.Tests.{le-ltb, lt-ltb, le-leb, lt-leb}
 use native.Mathlib.Omega.{arith}
-use Rattle.format.specs.Laws.{len-is}
-use Rattle.file.specs.Laws.{len-over}
+use Rattle.format.specs.Length.{len-is, len-le, len-over}
 use Rattle.walker.specs.Walk.{wholeAt, hasNext, recordOf}
-use Rattle.walker.specs.Laws.{len-fits}
 use Rattle.walker.proofs.record_at.Statement.{statement}
 use Rattle.walker.proofs.record_at.Tie as tie
 
@@ -18,7 +16,7 @@ unfolding recordOf hasNext
 returns-2 c =
     let l = c .before .before .before in
     let p = l .before .before .before .before .args .place in
-    rw (l .before .enum-told .given .1, lt-leb _ _ (len-over (p .format) (sym (l .len .ensures) ∙ c .before .enum-told3 .given .1)))
+    rw (l .before .enum-told .given .1, lt-leb _ _ (len-over (p .format) _ (sym (l .len .ensures) ∙ c .before .enum-told3 .given .1)))
 
 returns-3 : tie.Need-returns-3
 unfolding recordOf hasNext
@@ -27,7 +25,7 @@ returns-3 c =
     let l = n .before .before in
     let p = l .before .before .before .before .args .place in
     rw
-    (l .before .enum-told .given .1, len-fits (p .format) _ (sym (l .len .ensures) ∙ n .n .given .1), le-ltb 0 (p .left) (omega arith))
+    (l .before .enum-told .given .1, le-leb _ _ (len-le (p .format) _ (sym (l .len .ensures) ∙ n .n .given .1)), le-ltb 0 (p .left) (omega arith))
 
 returns-4 : tie.Need-returns-4
 unfolding wholeAt recordOf hasNext
@@ -37,7 +35,7 @@ returns-4 c =
     let p = l .before .before .before .before .args .place in
     let is = sym (l .len .ensures) ∙ n .n .given .1 in
     rw
-    (c .whole-at .ensures, l .before .enum-told .given .1, len-fits (p .format) _ is, lt-ltb 0 (p .left) (omega arith), len-is (p .format) _ is)
+    (c .whole-at .ensures, l .before .enum-told .given .1, le-leb _ _ (len-le (p .format) _ is), lt-ltb 0 (p .left) (omega arith), len-is (p .format) _ is)
 
 pub record-at-spec : {M : Type 1} → statement M
 record-at-spec =
