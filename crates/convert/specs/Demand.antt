@@ -6,6 +6,7 @@ use lib.ListN.{length, take, drop}
 use Rattle.refusal.specs.declared.Refusal.{Refusal}
 use Rattle.refusal.specs.declared.Refusal.the-variants.{NoPair, RecordLength, Short, NoRoom}
 use Rattle.refusal.specs.Table.{wantedOf}
+use Rattle.le.specs.Le as le
 use Rattle.format.specs.declared.Field.the-variants.{ExtraBytes}
 use Rattle.format.specs.Fields.{recordBytes}
 use Rattle.flags.specs.Readings.{classOf}
@@ -56,6 +57,15 @@ extraAt code extra k s = fieldOf (formatWith code extra) ExtraBytes (nth (length
 pub record SameValues (new old extra k : ℕ) (s e : List ℕ) : Type 0 where
   pub readings : Same (pointAt new extra k s) (pointAt old extra k e)
   pub extra-bytes : extraAt old extra k e ≡ extraAt new extra k s
+
+-- an old record that shows the record after k others: bytes of the old format's length, in which an old reader finds the same value in
+-- every field, and the same extra bytes
+pub record OldRecord (new old extra k : ℕ) (s : List ℕ) : Type 0 where
+  pub image : List ℕ
+  pub bytes : le.Bytes image
+  pub long : length image ≡ lengthOf old extra
+  pub readings : Same (pointAt new extra k s) (pointOf (formatWith old extra) image)
+  pub extra-bytes : fieldOf (formatWith old extra) ExtraBytes image ≡ extraAt new extra k s
 
 -- neither record is over 65,535 bytes
 abbrev pub NotOverlong : ℕ → ℕ → ℕ → Type 0

@@ -41,6 +41,12 @@ at-suc m k s =
     let more : suc k * m ≡ m + k * m = omega (arith, suc-mul k m) in
     ap (λ (j : ℕ). drop j s) more ∙ sym (drop-drop (k * m) m s)
 
+-- a record that is there is a whole one
+pub nth-length : (m k count : ℕ) (s : List ℕ) → k < count → count * m ≤ length s → length (nth m k s) ≡ m
+nth-length m k count s within there =
+    let ends : suc k * m ≤ count * m = mul-le-mul-right m (omega arith) in
+    length-take-le m (drop (k * m) s) (simp length-drop (omega (arith, suc-mul k m)))
+
 -- each record of a run that fits does
 pub fits-each : (f : Format) (m number count : ℕ) (s : List ℕ) → judgeRun f m number count s ≡ judged.Fits → (k : ℕ) → k < count → fitOf (pointOf f (nth m k s)) ≡ fit.Fits
 unfolding judgeRun
@@ -176,8 +182,7 @@ module _ (p : Plan) (sound : Sound false p) (pair : Paired (p .source) (p .targe
       let r = nth m k s in
       let g = goes false p count s (length d) fits in
       let image = each-image false p sound k count s (drop (count * n) d) (takes-all false p sound count s (g .records)) (g .there) l in
-      let ends : suc k * m ≤ count * m = mul-le-mul-right m (omega arith) in
-      let long : length r ≡ m = length-take-le m (drop (k * m) s) (simp length-drop (omega (arith, suc-mul k m, g .there))) in
+      let long : length r ≡ m = nth-length m k count s l (g .there) in
       let own = fits-each (p .source) m 1 count s (g .records) k l in
       let size : length (imageOf false p r) ≡ n = image-length false p sound r long (λ _. own) in
       let stands : nth n k e ≡ downImage (p .source) (p .target) r ++ [] = ap (nth n k) is ∙ ap (take n) (image .1) ∙ take-at (imageOf false p r) (image .0) n size ∙ sym (append-nil (imageOf false p r)) in

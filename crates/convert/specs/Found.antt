@@ -1,22 +1,29 @@
 -- What a converted run shows, and what a refused record is.
-use Prim.Native.Nat.{ℕ, suc, _<_}
+use Prim.Native.Nat.{ℕ, suc, _*_, _≤_, _<_}
 use mathlib.Core.Path.{_≡_, ap, sym, subst, _∙_}
 use mathlib.Core.Bool.{false}
-use mathlib.Core.List.{List}
+use mathlib.Core.List.{List, [], append-nil}
+use native.Mathlib.Omega.{arith}
 use lib.ListN.{length, drop}
 use lib.Seq.{drop-at}
 use Rattle.refusal.specs.declared.Refusal.{Refusal}
 use Rattle.le.specs.Le as le
-use Rattle.strict.specs.Theorems.{first-field-named, refused-only-then, no-old-record-shows-it}
+use Rattle.le.specs.Laws.{bytes-take, bytes-drop}
+use Rattle.format.specs.declared.Field.the-variants.{ExtraBytes}
+use Rattle.point.specs.Read.{pointOf, fieldOf}
+use Rattle.strict.specs.declared.Fit.the-variants as fit
+use Rattle.strict.specs.Fit.{fitOf}
+use Rattle.strict.specs.Shown.{Same, downImage}
+use Rattle.strict.specs.Theorems.{shown-the-same, shown-in-bytes, first-field-named, refused-only-then, no-old-record-shows-it, fits-if-shown}
 use Rattle.convert.specs.declared.Converted.the-variants as converted
 use Rattle.pairs.specs.Pairs.{formatWith}
 use Rattle.convert.specs.Run.{imagesOf, toOldOf}
 use Rattle.pairs.specs.Sound.{Sound}
-use Rattle.convert.specs.Demand.{Down, runLength, SameValues, FirstUnfit, RefusedFor, of-record}
+use Rattle.convert.specs.Demand.{Down, lengthOf, runLength, nth, pointAt, SameValues, OldRecord, FirstUnfit, RefusedFor, of-record}
 use Rattle.judge.specs.Laws.{goes}
 use Rattle.convert.specs.Laws.{takes-all, images-length}
 use Rattle.convert.specs.Told.{planOf, told-bytes, plan-of-sound, down-paired, down-told}
-use Rattle.convert.specs.Each.{Written, written, each-shown}
+use Rattle.convert.specs.Each.{nth-length, Written, written, each-shown}
 
 module _ {new old : ℕ} (pair : Down new old) (extra count : ℕ) (s d : List ℕ) where
   module _ {n : ℕ} {e : List ℕ} (h : toOldOf new extra count s d ≡ (converted.Bytes n, e)) where
@@ -42,6 +49,23 @@ module _ {new old : ℕ} (pair : Down new old) (extra count : ℕ) (s d : List �
         let size = images-length false plan down-sound count s (takes-all false plan down-sound count s (g .records)) (g .there) in
         let past : drop (runLength old extra count) e ≡ drop (runLength old extra count) d = ap (drop (runLength old extra count)) (w .stands) ∙ drop-at (imagesOf false plan count s) _ _ size in
         (w .many, subst (λ (m : ℕ). drop m e ≡ drop m d) (sym (w .many)) past)
+
+  -- a record fits exactly when an old record shows it
+  module _ (bytes : le.Bytes s) (there : runLength new extra count ≤ length s) (k : ℕ) (within : k < count) where
+    pub fits-shown : fitOf (pointAt new extra k s) ≡ fit.Fits → OldRecord new old extra k s
+    fits-shown fits =
+        let a = formatWith new extra in
+        let b = formatWith old extra in
+        let paired = down-paired pair extra in
+        let r = nth (lengthOf new extra) k s in
+        let all = bytes-take (lengthOf new extra) _ (bytes-drop (k * lengthOf new extra) s bytes) in
+        let long : length r ≡ lengthOf new extra = nth-length (lengthOf new extra) k count s within there in
+        let shown = subst (λ (t : List ℕ). Same (pointOf a r) (pointOf b t) × (fieldOf b ExtraBytes t ≡ fieldOf a ExtraBytes r)) (append-nil (downImage a b r)) (shown-the-same a b paired r all [] (omega arith) fits) in
+        let own = shown-in-bytes a b paired r all [] (omega arith) fits in
+        record { image = downImage a b r; bytes = own .0; long = own .1; readings = shown .0; extra-bytes = shown .1 }
+
+    pub shown-fits : OldRecord new old extra k s → fitOf (pointAt new extra k s) ≡ fit.Fits
+    shown-fits o = fits-if-shown _ _ (down-paired pair extra) _ (o .image) (o .bytes) (o .readings)
 
   -- a refusal with a record's number is that record's
   pub unfit-record : {why : Refusal} {k : ℕ} → RefusedFor new extra count s d why (suc k) → FirstUnfit new old extra count k s why

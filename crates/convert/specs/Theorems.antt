@@ -10,9 +10,9 @@ use Rattle.refusal.specs.declared.Refusal.{Refusal}
 use Rattle.le.specs.Le as le
 use Rattle.convert.specs.declared.Converted.the-variants.{Bytes, Refused}
 use Rattle.convert.specs.Run.{toOldOf, toNewOf}
-use Rattle.convert.specs.Demand.{Down, Up, lengthOf, runLength, SameValues, FirstUnfit, Enough, No28, laid, Convertible, RefusedFor}
+use Rattle.convert.specs.Demand.{Down, Up, lengthOf, runLength, SameValues, OldRecord, FirstUnfit, NotOverlong, Enough, No28, laid, Convertible, RefusedFor}
 use Rattle.convert.specs.Exact.{converted-then, then-converted, refused-then, then-refused}
-use Rattle.convert.specs.Found.{same-values, rest-stays, unfit-record}
+use Rattle.convert.specs.Found.{same-values, rest-stays, fits-shown, shown-fits, unfit-record}
 use Rattle.convert.specs.Back.{upgrade-answered, answered-back}
 
 module _ {new old : ℕ} (pair : Down new old) (extra count : ℕ) (s d : List ℕ) where
@@ -35,6 +35,26 @@ module _ {new old : ℕ} (pair : Down new old) (extra count : ℕ) (s d : List �
       {why : Refusal} {k : ℕ} {e : List ℕ} → toOldOf new extra count s d ≡ (Refused why (suc k), e)
       → FirstUnfit new old extra count k s why
   refused-record refused = unfit-record pair extra count s d (refused-then new extra count s d refused .0)
+
+  -- "It is refused only then, a short buffer, an overlong record or a wrong format aside": these aside, a run is converted exactly when
+  -- each of its records has an old record that shows it.
+  pub converted-if-shown :
+      le.Bytes s → NotOverlong new old extra → Enough new old extra count s d
+      → ((n : ℕ) × (e : List ℕ) × (toOldOf new extra count s d ≡ (Bytes n, e))) ↔ ((k : ℕ) → k < count → OldRecord new old extra k s)
+  converted-if-shown bytes long enough = (
+    λ w. λ k l. fits-shown pair extra count s d bytes (enough .0) k l (converted-then new extra count s d (w .2) .all-fit k l),
+    λ shown. (
+      _,
+      _,
+      then-converted new extra count s d (record {
+        old = old;
+        pair = pair;
+        not-overlong = long;
+        enough = enough;
+        all-fit = λ k l. shown-fits pair extra count s d bytes (enough .0) k l (shown k l);
+      }),
+    ),
+  )
 
 -- "It is refused only then, a short buffer, an overlong record or a wrong format aside." Of any format code: a run is converted exactly
 -- when it has a pair, no record is overlong, no buffer short, and every record fits; it is refused, with a refusal and a record number,

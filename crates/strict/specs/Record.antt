@@ -1,18 +1,19 @@
 -- What an old record is read as, of a point that fits; and an old point brought up and written down again.
 use Prim.Native.Nat.{ℕ, _*_, _/_, _<_, _≤_}
 use mathlib.Core.Path.{_≡_, refl, ap, sym, subst, _∙_}
-use mathlib.Core.Bool.{Bool, true, false}
+use mathlib.Core.Bool.{Bool, true, false, cond}
 use mathlib.Core.List.{List, _++_}
 use native.Mathlib.Omega.{arith}
 use lib.IntN.{natAbs}
-use lib.ListN.{length, take}
+use lib.ListN.{length, take, drop}
 use lib.Signed.{natAbs-le}
 use mir.Syntax.{w16}
 use Rattle.le.specs.Le.{Bytes}
+use Rattle.le.specs.Laws.{bytes-take, bytes-drop}
 use Rattle.format.specs.declared.Format.{Format}
 use Rattle.format.specs.declared.Field.{Field}
 use Rattle.format.specs.declared.Field.the-variants.{X, Y, Z, Intensity, Flags, UserData, ScanAngle, PointSourceId, GpsTime, Color, Nir, Waveform, ExtraBytes}
-use Rattle.format.specs.Fields.{hasOf, recordBytes}
+use Rattle.format.specs.Fields.{sizeOf, placeOf, hasOf, recordBytes}
 use Rattle.flags.specs.declared.Flags as flags
 use Rattle.flags.specs.declared.Flags.the-variants.{TwoByte, ThreeByte}
 use Rattle.flags.specs.declared.TwoBytes.{TwoBytes}
@@ -31,7 +32,9 @@ use Rattle.point.specs.declared.MaybeNir.the-variants.{Some, None}
 use Rattle.point.specs.declared.Point.{Point}
 use Rattle.point.specs.Read.{fieldOf, pointOf}
 use Rattle.point_write.specs.Write.{twoList, fieldBytes, recordOf}
-use Rattle.point_write.specs.Taken.{record-same}
+use Rattle.point_write.specs.Taken.{record-length, record-same}
+use Rattle.point_write.specs.Again.{held-taken}
+use Rattle.point_write.specs.Octets.{record-made}
 use Rattle.point_write.specs.Held.{FlagsHeld, AngleHeld, TimeHeld, ColorHeld, NirHeld, WaveformHeld, Held}
 use Rattle.point_write.specs.Theorems.{read-then-written, read-is-held, written-then-read, extra-written-then-read}
 use Rattle.strict.specs.declared.Fit.the-variants.{Fits}
@@ -126,14 +129,22 @@ module _ (new old : Format) (pair : Paired new old) (p : Point) (e : List ℕ) w
           extra = has .extra ∙ pair .extra;
         }
 
-    -- an old reader of the record finds that point, and the extra bytes
-    pub down-read : (rest : List ℕ) → (pointOf old (recordOf old p e ++ rest) ≡ downOf p) × (fieldOf old ExtraBytes (recordOf old p e ++ rest) ≡ e)
-    down-read rest =
+    -- the record is that point's
+    same-record : recordOf old p e ≡ recordOf old (downOf p) e
+    same-record =
         let two = fits-down (p .flags) (fit-parts p fits .0) in
-        let same = down-record old p e (pair .is-old) (pair .no-nir) (two .first) (two .second) (two .bytes) in (
-          ap (λ (l : List ℕ). pointOf old (l ++ rest)) same ∙ written-then-read old (downOf p) e down-held rest,
-          ap (λ (l : List ℕ). fieldOf old ExtraBytes (l ++ rest)) same ∙ extra-written-then-read old (downOf p) e down-held rest,
-        )
+        down-record old p e (pair .is-old) (pair .no-nir) (two .first) (two .second) (two .bytes)
+
+    -- so an old reader finds that point in it, and the extra bytes
+    pub down-read : (rest : List ℕ) → (pointOf old (recordOf old p e ++ rest) ≡ downOf p) × (fieldOf old ExtraBytes (recordOf old p e ++ rest) ≡ e)
+    down-read rest = (
+      ap (λ (l : List ℕ). pointOf old (l ++ rest)) same-record ∙ written-then-read old (downOf p) e down-held rest,
+      ap (λ (l : List ℕ). fieldOf old ExtraBytes (l ++ rest)) same-record ∙ extra-written-then-read old (downOf p) e down-held rest,
+    )
+
+    -- and the record is one of bytes, of the old format's length
+    pub down-bytes : Bytes e → Bytes (recordOf old p e) × (length (recordOf old p e) ≡ recordBytes old)
+    down-bytes extra = rw same-record (record-made old (downOf p) e down-held extra, record-length old (downOf p) e (held-taken old (downOf p) e down-held))
 
   -- what that point shows
   pub down-same : fitOf p ≡ Fits → Same p (downOf p)
@@ -244,6 +255,10 @@ module _ (new old : Format) (pair : Paired new old) (s : List ℕ) (all : Bytes 
       let e = fieldOf new ExtraBytes s in
       let read = down-read new old pair p e (read-is-held new s all long) fits rest in
       (rw (read .0) (down-same new old pair p e fits), read .1)
+
+  pub image-bytes : recordBytes new ≤ length s → fitOf (pointOf new s) ≡ Fits → Bytes (downImage new old s) × (length (downImage new old s) ≡ recordBytes old)
+  image-bytes long fits =
+      down-bytes new old pair (pointOf new s) (fieldOf new ExtraBytes s) (read-is-held new s all long) fits (bytes-take (sizeOf new ExtraBytes) (drop (placeOf new ExtraBytes) s) (bytes-drop (placeOf new ExtraBytes) s all))
 
   pub image-back : recordBytes old ≤ length s → (classOf (pointOf old s .flags) ≡ 28 → ⊥) → (fitOf (pointOf new (upImage old new s ++ rest)) ≡ Fits) × (downImage new old (upImage old new s ++ rest) ≡ take (recordBytes old) s)
   unfolding upgradedOf

@@ -32,13 +32,17 @@ use Rattle.pairs.specs.Paired.{Paired}
 use Rattle.strict.specs.Shown.{Same, Never, Unshown, downImage, upImage}
 use Rattle.strict.specs.First.{FirstField, first-named}
 use Rattle.strict.specs.Named.{refusal-named, unshown-never}
-use Rattle.strict.specs.Record.{image-same, image-back}
+use Rattle.strict.specs.Record.{image-same, image-bytes, image-back}
 
 module _ (new old : Format) (pair : Paired new old) (s : List ℕ) (all : le.Bytes s) (rest : List ℕ) where
   -- "records made strictly into [their] paired old format [show] an old reader, in every record, the same value in every field,
   -- scan angle to the nearest whole degree with halves away from zero", whatever stands after the record; and the same extra bytes.
   pub shown-the-same : recordBytes new ≤ length s → fitOf (pointOf new s) ≡ Fits → Same (pointOf new s) (pointOf old (downImage new old s ++ rest)) × (fieldOf old ExtraBytes (downImage new old s ++ rest) ≡ fieldOf new ExtraBytes s)
   shown-the-same = image-same new old pair s all rest
+
+  -- The record that shows it is one of bytes, of the old format's length.
+  pub shown-in-bytes : recordBytes new ≤ length s → fitOf (pointOf new s) ≡ Fits → le.Bytes (downImage new old s) × (length (downImage new old s) ≡ recordBytes old)
+  shown-in-bytes = image-bytes new old pair s all rest
 
   -- "An old record with a pair, whose class isn't 28 .., brought up and strictly down again, has its own bytes."
   pub up-and-down : recordBytes old ≤ length s → (classOf (pointOf old s .flags) ≡ 28 → ⊥) → (fitOf (pointOf new (upImage old new s ++ rest)) ≡ Fits) × (downImage new old (upImage old new s ++ rest) ≡ take (recordBytes old) s)
