@@ -4,6 +4,7 @@ pub mod Held
 -- laws
 pub mod Laws
 pub mod Taken
+pub mod Octets
 pub mod Answered
 pub mod Back
 pub mod Found
