@@ -1,2 +1,3 @@
+-- definitions
 pub mod Words
 pub mod Rows
