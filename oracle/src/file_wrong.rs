@@ -456,7 +456,6 @@ impl Library for StandIn {
             return;
         }
         let format = format::format(word as u32);
-        place[0] = format::word(format).into();
         let bare = Format {
             extra_bytes: 0,
             ..format
@@ -497,6 +496,7 @@ impl Library for StandIn {
         let point = Point::read_from(&bytes[..], &bare).expect("a whole record");
         *numbers = point::numbers(&point);
         *row = [0; 3];
+        place[0] = format::word(format).into();
         place[1] = at.wrapping_add(step);
         place[2] -= 1;
     }
@@ -516,7 +516,7 @@ impl Library for StandIn {
             true => length - u64::from(format.extra_bytes),
             false => length,
         };
-        *part = [at, if there { length } else { 0 }];
+        *part = if there { [at, length] } else { [0, 0] };
     }
 
     fn rewrite(&self, file: &[u8], allowance: u64, dst: &mut [u8], row: &mut Row) {
