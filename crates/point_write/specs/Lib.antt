@@ -10,8 +10,6 @@ pub mod Back
 pub mod Found
 pub mod Again
 pub mod Past
-pub mod Octets
 pub mod Accepted
-pub mod Octets
 -- theorems
 pub mod Theorems
