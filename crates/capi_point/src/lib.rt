@@ -10,7 +10,7 @@
 ghost use mathlib.Core.Path.{_≡_};
 ghost use lib.ListN.{getD};
 ghost use Rattle.words.specs.Words.{formatOfWord};
-ghost use Rattle.point.specs.Read.{noPoint, readOf};
+ghost use Rattle.point.specs.Read.{readOf};
 ghost use Rattle.point_write.specs.Write.{writtenOf};
 ghost use Rattle.words.specs.Rows.{writtenRow};
 ghost use Rattle.capi_point.specs.Numbers.{hasTime, timeBitsOf, hasColor, colorOr, hasNir, nirOr, hasWaveform, waveformOr, bitsOf, numbersOf, readRow, extraPart, timeFrom, colorFrom, nirFrom, waveformFrom, maybeWaveformFrom, pointFrom};
@@ -72,14 +72,6 @@ pub extern "C" fn las_point_write(
         Wrote::Bytes(n) => words::tell(row, 0, n as u64, 0),
         Wrote::Refused(refusal) => words::refuse(row, refusal, 0),
     }
-}
-
-// The numbers of the Rust's default point.
-#[no_mangle]
-pub extern "C" fn las_point_default(numbers: &mut [u64; 24])
-    ensures { λ _. ⌜ now (numbers .exit) ≡ numbersOf noPoint ⌝ }
-{
-    *numbers = numbers_of(Point::default());
 }
 
 // A point's numbers.

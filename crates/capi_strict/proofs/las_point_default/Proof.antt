@@ -1,8 +1,8 @@
 use mathlib.Core.Path.{ap, _∙_}
 use Rattle.capi_point.specs.Numbers.{numbersOf}
 use borrow.Author.Needs.{needs}
-use Rattle.capi_point.proofs.las_point_default.Statement.{statement}
-use Rattle.capi_point.proofs.las_point_default.Tie as tie
+use Rattle.capi_strict.proofs.las_point_default.Statement.{statement}
+use Rattle.capi_strict.proofs.las_point_default.Tie as tie
 
 returns : tie.Need-returns
 returns c = c .numbers-of .ensures ∙ ap numbersOf (c .before .default .ensures)
