@@ -1,8 +1,8 @@
 use mathlib.Core.Path.{ap, _∙_}
 use borrow.Author.Needs.{needs}
 use Rattle.capi_convert.specs.Rows.{toldOf}
-use Rattle.capi_upgrade.proofs.las_convert_to_new.Statement.{statement}
-use Rattle.capi_upgrade.proofs.las_convert_to_new.Tie as tie
+use Rattle.capi_convert.proofs.las_convert_to_new.Statement.{statement}
+use Rattle.capi_convert.proofs.las_convert_to_new.Tie as tie
 
 returns : tie.Need-returns
 returns c =
