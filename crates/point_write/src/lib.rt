@@ -5,12 +5,10 @@ ghost use lib.ListN.{length};
 ghost use lib.Seq.{sets};
 ghost use Rattle.fields.specs.Table.{Stored};
 ghost use Rattle.format.specs.Fields.{restOf, sizeOf, placeOf, recordBytes};
-ghost use Rattle.layout.specs.Layout.{placesOf};
 ghost use Rattle.point_write.specs.Write.{fieldBytes, sizedOf, writtenOf};
 use flags::TwoBytes;
 use format::Format;
 use format::FormatLen;
-use layout::Places;
 use lent::Wrote;
 use point::Point;
 use refusal::Refusal;
@@ -41,7 +39,7 @@ fn write_sized(point: Point, extra: &[u8], dst: &mut [u8], format: Format, n: us
     if format.is_extended {
         let core = point_bytes::extended_core(point);
         put_at(dst, 0, &core);
-        write_rest(point, extra, dst, format, layout::places_for(format));
+        write_rest(point, extra, dst, format);
         return Wrote::Bytes(n);
     }
     let flags = point.flags;
@@ -49,7 +47,7 @@ fn write_sized(point: Point, extra: &[u8], dst: &mut [u8], format: Format, n: us
         TwoBytes::Bytes(a, b) => {
             let core = point_bytes::legacy_core(point, a, b);
             put_at(dst, 0, &core);
-            write_rest(point, extra, dst, format, layout::places_for(format));
+            write_rest(point, extra, dst, format);
             Wrote::Bytes(n)
         }
         TwoBytes::Refused(refusal) => Wrote::Refused(refusal),
@@ -57,10 +55,11 @@ fn write_sized(point: Point, extra: &[u8], dst: &mut [u8], format: Format, n: us
 }
 
 // What the format has after the source id, each piece at the table's place for it.
-fn write_rest(point: Point, extra: &[u8], dst: &mut [u8], format: Format, at: Places)
-    requires { ⌜ (length (now extra) ≡ format .«extra_bytes») × (recordBytes format ≤ length (now dst)) × (at ≡ placesOf format) ⌝ }
+fn write_rest(point: Point, extra: &[u8], dst: &mut [u8], format: Format)
+    requires { ⌜ (length (now extra) ≡ format .«extra_bytes») × (recordBytes format ≤ length (now dst)) ⌝ }
     ensures { λ _. ⌜ Stored (sizeOf format) (placeOf format) (fieldBytes format point (now (extra .entry))) (now (dst .entry)) (restOf format) (now (dst .exit)) ⌝ }
 {
+    let at = layout::places_for(format);
     if format.has_gps_time {
         let of_time = point.gps_time;
         put_at(dst, at.gps_time, &point_bytes::time_bytes(of_time));

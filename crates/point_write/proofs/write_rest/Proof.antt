@@ -21,15 +21,15 @@ use Rattle.point_write.proofs.Laid.{lacking, there, fits, no-stores}
 use Rattle.point_write.proofs.write_rest.Statement.{statement}
 use Rattle.point_write.proofs.write_rest.Tie as tie
 
-module _ (c : tie.After-slice-known) where
+module _ (c : tie.After-places-for) where
   abbrev begun : tie.Start
-  begun = c .before .before
+  begun = c .before .before .before
 
   abbrev Put : List ℕ → List Field → List ℕ → Type 0
   Put = Stored (sizeOf (begun .args .format)) (placeOf (begun .args .format)) (fieldBytes (begun .args .format) (begun .args .point) (begun .args .extra .now))
 
-  at : Placed (begun .args .format) (begun .args .at)
-  at = placed (begun .args .format) (begun .pre .2)
+  at : Placed (begun .args .format) (c .places-for .result)
+  at = placed (begun .args .format) (c .places-for .ensures)
 
   -- what a piece leaves is as long as what it found
   kept : {d r : List ℕ} {xs : List Field} → Put d xs r → length r ≡ length d
@@ -101,7 +101,7 @@ put-at-requires-4 c κs =
 
 -- the four pieces together, and the extra bytes
 module _ (j : tie.Joined4) where
-  abbrev p : tie.After-slice-known
+  abbrev p : tie.After-places-for
   p = j .before .before .before .before
 
   whole : recordBytes (begun p .args .format) ≤ length (j .if4 .dst)
@@ -132,6 +132,6 @@ pub write-rest-spec : {M : Type 1} → statement M
 write-rest-spec =
     tie.close
     (tie.spec
-    (λ c κs. search needs) (λ c. search needs) put-at-requires (λ c κs. search needs) (λ c. search needs) put-at-requires-2
+    (λ c κs. search needs) (λ c κs. search needs) (λ c. search needs) put-at-requires (λ c κs. search needs) (λ c. search needs) put-at-requires-2
     (λ c κs. search needs) (λ c. search needs) put-at-requires-3 (λ c κs. search needs) (λ c. search needs) put-at-requires-4 put-at-requires-5
     (λ c. kept (p (c .before .before .before .before .before)) (returns c)) returns (λ c. kept (p (c .before)) (returns-2 c)) returns-2)

@@ -47,7 +47,7 @@ put-at-requires c κs =
 returns-3 : tie.Need-returns-3
 returns-3 c =
     let w = c .before .before in
-    let q = w .before .before .before .before .before in
+    let q = w .before .before .before .before in
     let x = q .before .before .before in
     let a = begun x .args in
     let new = x .before .if3 .taken in
@@ -87,7 +87,7 @@ put-at-requires-2 c κs =
 returns-4 : tie.Need-returns-4
 returns-4 c =
     let r = c .before .before in
-    let q = r .before .before .before .before .before in
+    let q = r .before .before .before .before in
     let x = q .before .before .before in
     let a = opened x .args in
     written (a .format) (a .point) (a .extra .now) (taken-2 x) (legacyCoreOf (a .point) (v x) (w x)) (legacy-is (a .format) (a .point) (a .extra .now) (v x) (w x) (old x .if3 .left) (told x))
@@ -106,6 +106,6 @@ pub write-sized-spec : {M : Type 1} → statement M
 write-sized-spec =
     tie.close
     (tie.spec
-    (λ c. search needs) returns returns-2 (λ c κs. search needs) (λ c. search needs) put-at-requires (λ c κs. search needs) (λ c κs. search needs)
-    (λ c. search needs) returns-3 (λ c κs. search needs) (λ c. search needs) (λ c κs. search needs) (λ c. search needs) put-at-requires-2
-    (λ c κs. search needs) (λ c κs. search needs) (λ c. search needs) (λ c. search needs) returns-4 returns-5)
+    (λ c. search needs) returns returns-2 (λ c κs. search needs) (λ c. search needs) put-at-requires (λ c κs. search needs) (λ c. search needs)
+    returns-3 (λ c κs. search needs) (λ c. search needs) (λ c κs. search needs) (λ c. search needs) put-at-requires-2 (λ c κs. search needs)
+    (λ c. search needs) (λ c. search needs) returns-4 returns-5)
