@@ -1,8 +1,7 @@
 -- One record of a run, and the rest of it: a turn of the judge.
-use Prim.Native.Nat.{ℕ, zero, suc, _+_, _-_, _*_, _/_, _≤_, _<_}
+use Prim.Native.Nat.{ℕ, zero, suc, _+_, _-_, _<_}
 use mathlib.Core.Path.{_≡_, sym, _∙_}
 use mathlib.Core.List.{List}
-use native.Mathlib.Nat.{div-lt-iff-lt-mul, le-div-iff-mul-le}
 use native.Mathlib.Omega.{arith}
 use lib.ListN.{take, drop}
 use lib.Seq.{drop-drop}
@@ -13,13 +12,6 @@ use Rattle.strict.specs.Fit.{fitOf}
 use Rattle.judge.specs.declared.Judged.{Judged}
 use Rattle.judge.specs.declared.Judged.the-variants.{Fits}
 use Rattle.judge.specs.Judge.{judgedBy, judgeRun}
-
--- a test by division, which cannot wrap, says what the product would
-pub div-le : (m n size : ℕ) → 0 < m → n ≤ size / m → n * m ≤ size
-div-le m n size h g = le-div-iff-mul-le h .0 g
-
-pub div-lt : (m n size : ℕ) → 0 < m → size / m < n → size < n * m
-div-lt m n size h g = div-lt-iff-lt-mul h .0 g
 
 module _ (f : Format) (m : ℕ) (s : List ℕ) where
   judge-step : (number at left : ℕ) → 0 < left → judgeRun f m number left (drop at s) ≡ judgedBy (fitOf (pointOf f (take (at + m - at) (drop at s)))) number (judgeRun f m (number + 1) (left - 1) (drop (at + m) s))

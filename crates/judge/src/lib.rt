@@ -1,9 +1,8 @@
 // Whether a whole run of point records goes, as document 01 orders it: by its pair of formats, by the lengths of source and
 // destination, and on its way down by each of its records.
 ghost use mathlib.Core.Path.{_≡_};
-ghost use Prim.Native.Nat.{_*_, _≤_, _<_};
+ghost use Prim.Native.Nat.{_*_, _≤_};
 ghost use lib.ListN.{length};
-ghost use Rattle.refusal.specs.Table.{wantedOf};
 ghost use Rattle.format.specs.declared.FormatLen.the-variants as len;
 ghost use Rattle.format.specs.Fields.{lenOf};
 ghost use Rattle.point.specs.Read.{readOf};
@@ -79,13 +78,13 @@ fn judge(src: &[u8], plan: Plan, count: usize, up: bool, room: usize) -> Judged
 {
     if src.len() / plan.source_length < count {
         return Judged::Refused {
-            refusal: Refusal::Short(wanted(count, plan.source_length)),
+            refusal: Refusal::Short(refusal::wanted(count as u64, plan.source_length as u64)),
             record: 0,
         };
     }
     if room / plan.target_length < count {
         return Judged::Refused {
-            refusal: Refusal::NoRoom(wanted(count, plan.target_length)),
+            refusal: Refusal::NoRoom(refusal::wanted(count as u64, plan.target_length as u64)),
             record: 0,
         };
     }
@@ -93,17 +92,6 @@ fn judge(src: &[u8], plan: Plan, count: usize, up: bool, room: usize) -> Judged
         return Judged::Fits;
     }
     judge_records(src, plan.source, plan.source_length, count)
-}
-
-// The bytes of `count` records of m bytes, 0 if they are over 2^64 - 1.
-fn wanted(count: usize, m: usize) -> u64
-    requires { ⌜ 0 < m ⌝ }
-    ensures { λ r. ⌜ r ≡ wantedOf (count * m) ⌝ }
-{
-    if 18446744073709551615 / m < count {
-        return 0;
-    }
-    (count * m) as u64
 }
 
 // The first record that does not fit, with its number.

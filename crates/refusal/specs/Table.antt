@@ -1,9 +1,9 @@
--- Document 01, "Refusal numbers": the number and the value of each row, and the three numbers that a refusal returns.
+-- Document 01, "Refusal numbers", and the refusals that document 02's requests add: the number and the value of each row, and the three numbers that a refusal returns.
 use Prim.Native.Nat.{ℕ, _^_}
 use mathlib.Core.Bool.{cond}
 use lib.Dec.{ltb}
 use Rattle.refusal.specs.declared.Refusal.{Refusal}
-use Rattle.refusal.specs.declared.Refusal.the-variants.{Short, Signature, Version, HeaderSize, Format, Compressed, FormatForVersion, RecordLength, PointOffset, Allowance, VlrExtent, PointExtent, EvlrExtent, EvlrStart, ReturnNumber, NumberOfReturns, Class, Channel, Overlap, Nir, Angle, NoRoom, ExtraBytes, VlrDataLength, Attributes, NoPair, Index}
+use Rattle.refusal.specs.declared.Refusal.the-variants.{Short, Signature, Version, HeaderSize, Format, Compressed, FormatForVersion, RecordLength, PointOffset, Allowance, VlrExtent, PointExtent, EvlrExtent, EvlrStart, ReturnNumber, NumberOfReturns, Class, Channel, Overlap, Nir, Angle, NoRoom, ExtraBytes, VlrDataLength, Attributes, NoPair, Index, NotVersion12, NoRecords, CountNeither, CountTooLarge}
 use Rattle.refusal.specs.declared.Row.{Row}
 
 -- the column "no."
@@ -35,6 +35,11 @@ numberOf (VlrDataLength v) = 24
 numberOf Attributes = 25
 numberOf (NoPair v) = 26
 numberOf (Index v) = 27
+-- document 02, No. 1: "not 1.2; n is zero; .. count neither; a count over 2^32−1"
+numberOf NotVersion12 = 28
+numberOf NoRecords = 29
+numberOf CountNeither = 30
+numberOf CountTooLarge = 31
 
 -- "bytes wanted in all, 0 if over 2^64−1", and so "bytes or entries wanted, 0 likewise"
 unfoldable pub wantedOf : ℕ → ℕ
@@ -69,6 +74,10 @@ valueOf (VlrDataLength v) = v
 valueOf Attributes = 0
 valueOf (NoPair v) = v
 valueOf (Index v) = v
+valueOf NotVersion12 = 0
+valueOf NoRecords = 0
+valueOf CountNeither = 0
+valueOf CountTooLarge = 0
 
 -- a refusal at a record; the record number is 0 where document 01 names no record
 unfoldable pub rowOf : Refusal → ℕ → Row

@@ -1,6 +1,8 @@
-// Document 01's refusals, 1 to 27: a case for each row of its table, named as there, with the row's value.
+// Document 01's refusals, 1 to 27: a case for each row of its table, named as there, with the row's value; then those of document
+// 02's requests, in the order in which they landed.
 ghost use mathlib.Core.Path.{_≡_};
-ghost use Rattle.refusal.specs.Table.{numberOf, valueOf, rowOf};
+ghost use Prim.Native.Nat.{_*_};
+ghost use Rattle.refusal.specs.Table.{numberOf, valueOf, rowOf, wantedOf};
 
 pub enum Refusal {
     // Bytes wanted in all, 0 if over 2^64 - 1.
@@ -37,6 +39,14 @@ pub enum Refusal {
     Attributes,
     NoPair(u8),
     Index(u64),
+    // No. 1, the append: the file's version is not 1.2.
+    NotVersion12,
+    // No records are offered.
+    NoRecords,
+    // The count is neither the one believed nor that and the records offered, which stand last.
+    CountNeither,
+    // A count would pass 2^32 - 1.
+    CountTooLarge,
 }
 
 // A refusal as document 01 returns it: number, value and record number.
@@ -47,7 +57,7 @@ pub struct Row {
 }
 
 impl Refusal {
-    // The row's number in document 01's table.
+    // The row's number in the table.
     pub fn number(self) -> u8
         ensures { λ r. ⌜ r ≡ numberOf self ⌝ }
     {
@@ -79,10 +89,14 @@ impl Refusal {
             Refusal::Attributes => 25,
             Refusal::NoPair(_) => 26,
             Refusal::Index(_) => 27,
+            Refusal::NotVersion12 => 28,
+            Refusal::NoRecords => 29,
+            Refusal::CountNeither => 30,
+            Refusal::CountTooLarge => 31,
         }
     }
 
-    // The row's value in document 01's table.
+    // The row's value in the table.
     pub fn value(self) -> u64
         ensures { λ r. ⌜ r ≡ valueOf self ⌝ }
     {
@@ -114,6 +128,10 @@ impl Refusal {
             Refusal::Attributes => 0,
             Refusal::NoPair(v) => v as u64,
             Refusal::Index(v) => v,
+            Refusal::NotVersion12 => 0,
+            Refusal::NoRecords => 0,
+            Refusal::CountNeither => 0,
+            Refusal::CountTooLarge => 0,
         }
     }
 
@@ -127,4 +145,17 @@ impl Refusal {
             record,
         }
     }
+}
+
+// The bytes of `count` records of `each` bytes, as 1 and 22 tell them: 0 if over 2^64 - 1.
+pub fn wanted(count: u64, each: u64) -> u64
+    ensures { λ r. ⌜ r ≡ wantedOf (count * each) ⌝ }
+{
+    if each == 0 {
+        return 0;
+    }
+    if 18446744073709551615 / each < count {
+        return 0;
+    }
+    count * each
 }

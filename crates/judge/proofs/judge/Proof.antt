@@ -1,10 +1,11 @@
 -- The tests are by division, which cannot wrap, and say what the exact products would.
 use Prim.Native.Nat.{_*_, _≤_, _<_}
+use borrow.Author.Needs.{needs}
 use borrow.Author.Tests.{le-ltb, lt-ltb}
 use lib.ListN.{length}
+use Rattle.refusal.specs.Laws.{div-le, div-lt}
 use Rattle.judge.specs.Judge.{judgedOf}
 use Rattle.pairs.specs.Sound.{some-bytes}
-use Rattle.judge.proofs.Turn.{div-le, div-lt}
 use Rattle.judge.proofs.judge.Statement.{statement}
 use Rattle.judge.proofs.judge.Tie as tie
 
@@ -53,6 +54,6 @@ pub judge-spec : {M : Type 1} → statement M
 judge-spec =
     tie.close
     (tie.spec
-    (λ c. source-bytes (c .before .before)) (λ c κs. source-bytes (c .before .before .before)) returns
-    (λ c. target-bytes (c .before .before .before .before)) (λ c κs. target-bytes (c .before .before .before .before .before)) returns-2
+    (λ c. source-bytes (c .before .before)) (λ c κs. search needs) returns
+    (λ c. target-bytes (c .before .before .before .before)) (λ c κs. search needs) returns-2
     returns-3 judge-records-requires returns-4)
