@@ -3,17 +3,18 @@ use Prim.Native.Nat.{ℕ, zero, suc, _+_, _-_, _≤_, _<_}
 use mathlib.Core.Path.{_≡_, refl, ap, sym, _∙_}
 use mathlib.Core.Bool.{Bool, true, false, cond}
 use mathlib.Core.List.{List, [], _∷_, _++_}
-use native.Mathlib.Nat.{min-le-left, sub-zero, zero-sub, suc-sub-suc}
+use native.Mathlib.Nat.{min-le-left}
 use native.Mathlib.Omega.{arith}
 use borrow.Author.Tests.{lt-ltb, le-ltb}
 use lib.Dec.{ltb}
-use lib.ListN.{length, take, drop, length-take}
-use lib.Seq.{take-nil, drop-drop}
+use lib.ListN.{length, drop, length-take}
+use lib.Seq.{drop-drop}
 use Rattle.vlr.specs.declared.Extent.{Extent}
 use Rattle.vlr.specs.declared.Extent.the-variants as extent
 use Rattle.vlr.specs.Layout.{headSize}
 use Rattle.vlr.specs.Vlr.{extentOf}
 use Rattle.vlr.specs.Laws.{accepted}
+use Rattle.header.specs.Window.{drop-take}
 use Rattle.cursor.specs.declared.Kind.{Kind}
 use Rattle.cursor.specs.declared.Kind.the-variants as kind
 use Rattle.cursor.specs.declared.Part.{Part}
@@ -37,12 +38,6 @@ pub ends-within : (extended : Bool) (s : List ℕ) (at to : ℕ) {n : ℕ} → e
 ends-within extended s at to p =
     let w = accepted extended (between at to s) p in
     omega (arith, some-head extended, between-short at to s)
-
-drop-take : (n m : ℕ) (l : List ℕ) → drop n (take m l) ≡ take (m - n) (drop n l)
-drop-take zero m l = rw sub-zero
-drop-take (suc n) zero l = rw zero-sub
-drop-take (suc n) (suc m) [] = rw take-nil
-drop-take (suc n) (suc m) (x ∷ l) = rw suc-sub-suc (drop-take n m l)
 
 -- what is left of some bytes after the first n
 pub drop-between : (n from to : ℕ) (s : List ℕ) → drop n (between from to s) ≡ between (from + n) to s

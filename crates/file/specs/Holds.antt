@@ -69,7 +69,7 @@ pub record Holds (allowance : ℕ) (s : List ℕ) : Type 0 where
   pub parts : PartsHold (standardIn s) (number VersionMinor s) allowance (outlineOf (readOf s .header)) s
 
 -- rule 1 holds exactly where the header reader answers
-judged-holds : (s : List ℕ) {n e : ℕ} → judged s ≡ answer.Whole n e → HeaderHolds s × (n ≡ standardIn s)
+pub judged-holds : (s : List ℕ) {n e : ℕ} → judged s ≡ answer.Whole n e → HeaderHolds s × (n ≡ standardIn s)
 judged-holds s p =
     let a = accepted s p in
     let w = within s p in (

@@ -7,3 +7,5 @@ pub mod Laws
 pub mod Counts
 -- theorems
 pub mod Theorems
+-- laws of accepted files, by the theorems
+pub mod Kept

@@ -11,6 +11,7 @@ use lib.ListN.{length, take, drop, length-take}
 use lib.Seq.{length-take-le}
 use Rattle.le.specs.Le.{num}
 use Rattle.le.specs.Laws.{num-take}
+use Rattle.le.specs.Part.{num-first}
 use Rattle.refusal.specs.declared.Refusal.{Refusal}
 use Rattle.refusal.specs.declared.Refusal.the-variants.{Short, Signature, Version as VersionRefusal}
 use Rattle.header.specs.declared.Version.{Version}
@@ -65,6 +66,13 @@ by-version P m p q r = go (ltb m 3) (ltb m 4) refl refl
 -- a block has at least the bytes of version 1.0, and its header-size field is within them
 pub size-least : (m : ℕ) → 227 ≤ size (fieldsOf m)
 size-least m = by-version (λ fs. 227 ≤ size fs) m (λ h. omega arith) (λ h. omega arith) (λ h. omega arith)
+
+-- the block of an older version ends before what it lacks
+pub short-12 : (m : ℕ) → m < 3 → size (fieldsOf m) ≤ 227
+short-12 m h = by-version (λ fs. size fs ≤ 227) m (λ l. omega arith) (λ e. absurd (omega arith)) (λ l. absurd (omega arith))
+
+pub short-13 : (m : ℕ) → m < 4 → size (fieldsOf m) ≤ 235
+short-13 m h = by-version (λ fs. size fs ≤ 235) m (λ l. omega arith) (λ e. omega arith) (λ l. absurd (omega arith))
 
 -- where a chain of tests answers whole, a test that would refuse has failed
 module _ (n e : ℕ) (b : Bool) (r : Refusal) (a : HeaderAnswer) where
@@ -172,3 +180,18 @@ agreed s t {n} {e} p same =
       holds-field = rw fields (omega (arith, w .3, long));
       end = a .end ∙ ap (paddedTo n) (sym fields);
     })
+
+-- As many bytes with the same signature, version and header-size field have the same answer.
+module _ (s t : List ℕ) (long : length t ≡ length s) (signature : part FileSignature t ≡ part FileSignature s) (major : number VersionMajor t ≡ number VersionMajor s) (minor : number VersionMinor t ≡ number VersionMinor s) (field : number HeaderSize t ≡ number HeaderSize s) where
+  same-size : (x : StandardSize) → sized x t ≡ sized x s
+  unfolding sized
+  same-size (Unknown r) = refl
+  same-size (Is n) = rw (long, field)
+
+  pub same-answer : judged t ≡ judged s
+  unfolding judged versioned versionOf
+  same-answer =
+      let signed : number FileSignature t ≡ number FileSignature s = sym (num-first 4 4 0 t (omega arith)) ∙ ap (num 4 0) signature ∙ num-first 4 4 0 s (omega arith) in
+      let versions : versionOf t ≡ versionOf s = λ i. record { major = major i; minor = minor i } in
+      let sizes : sized (standardOf (versionOf t)) t ≡ sized (standardOf (versionOf s)) s = same-size (standardOf (versionOf t)) ∙ ap (λ (v : Version). sized (standardOf v) s) versions in
+      rw (long, signature, signed, sizes)

@@ -2,12 +2,13 @@
 use Prim.Native.Nat.{ℕ, zero, suc, _+_, _*_, _^_, _≤_, _<_}
 use mathlib.Core.Path.{_≡_, refl, sym, ap, _∙_}
 use mathlib.Core.List.{List, [], _∷_, _++_, append-assoc}
-use native.Mathlib.Nat.{zero-mul}
+use native.Mathlib.Nat.{zero-mul, add-zero, add-assoc}
 use native.Mathlib.Omega.{arith}
 use lib.ListN.{length, getD, take, drop, replicate, length-append, length-drop, take-append-drop}
-use lib.Seq.{drop-drop, drop-at, take-at, take-add, length-take-le}
+use lib.Seq.{drop-drop, drop-at, take-at, take-add, take-take, length-take-le}
 use Rattle.le.specs.Le.{num, bytes, Bytes}
 use Rattle.le.specs.Laws.{length-bytes, num-lt, num-past, bytes-num, num-bytes}
+use Rattle.le.specs.Part.{num-part, num-first}
 use Rattle.le.specs.Real.{f64Of, f64BitsOf, f64-kept}
 use Rattle.fields.specs.Table.{part, joined}
 use Rattle.header.specs.Kinds.{Kind, Number, Text, Real, Numbers, widthOf, Value, nums, valueAt, bytesOf, Held, Fits}
@@ -22,6 +23,15 @@ pub nums-past : (w n at : ℕ) (b : List ℕ) → length b ≤ at → nums w n a
 unfolding nums
 nums-past w zero at b h = refl
 nums-past w (suc n) at b h = λ i. num-past w b at h i ∷ nums-past w n (at + w) b (omega arith) i
+
+-- they are those of the bytes that they lie in
+nums-part : (w n k m at : ℕ) (b : List ℕ) → k + n * w ≤ m → nums w n k (part m at b) ≡ nums w n (at + k) b
+unfolding nums
+nums-part w zero k m at b h = refl
+nums-part w (suc n) k m at b h =
+    let more : suc n * w ≡ w + n * w = omega arith in
+    let others : nums w n (k + w) (part m at b) ≡ nums w n (at + k + w) b = nums-part w n (k + w) m at b (omega arith) ∙ rw add-assoc in
+    λ i. num-part w k m at b (omega arith) i ∷ others i
 
 nums-lt : (w n at : ℕ) (b : List ℕ) → Bytes b → (j : ℕ) → getD (nums w n at b) j 0 < 256 ^ w
 unfolding nums
@@ -48,6 +58,16 @@ nums-again w (x ∷ xs) at b rest h e =
 pub length-numbers : (w : ℕ) (xs : List ℕ) → length (joined (bytes w) xs) ≡ length xs * w
 length-numbers w [] = omega arith
 length-numbers w (x ∷ xs) = rw (length-append, length-bytes, length-numbers w xs) (omega arith)
+
+-- a value is that of its own bytes, so the same bytes hold the same value
+value-part : (k : Kind) (at : ℕ) (b : List ℕ) → valueAt k 0 (part (widthOf k) at b) ≡ valueAt k at b
+value-part (Number w) at b = num-first w w at b (omega arith)
+value-part (Text w) at b = take-take w w (drop at b) (omega arith)
+value-part Real at b = ap f64Of (num-first 8 8 at b (omega arith))
+value-part (Numbers n w) at b = nums-part w n 0 (n * w) at b (omega arith) ∙ rw add-zero
+
+pub value-same : (k : Kind) (at : ℕ) (a b : List ℕ) → part (widthOf k) at a ≡ part (widthOf k) at b → valueAt k at a ≡ valueAt k at b
+value-same k at a b e = sym (value-part k at a) ∙ ap (valueAt k 0) e ∙ value-part k at b
 
 -- a value that fits has its kind's bytes
 pub value-wide : (k : Kind) (v : Value k) → Fits k v → length (bytesOf k v) ≡ widthOf k

@@ -18,7 +18,7 @@ use Rattle.header.specs.Kinds.{Fits}
 use Rattle.header.specs.Layout.{Field, VersionMinor, HeaderSize, StartOfWaveformDataPacketRecord, StartOfFirstEvlr, NumberOfEvlrs, NumberOfPointRecords, NumberOfPointsByReturn, place, kind, width, fields12, fields14, fieldsOf, size}
 use Rattle.header.specs.Header.{number, startOf, evlrOf, largeRead, noLarge, headerOf}
 use Rattle.header.specs.Judged.{paddedTo, judged, readOf, paddingOf}
-use Rattle.header.specs.Laws.{by-version, accepted, within, size-least}
+use Rattle.header.specs.Laws.{accepted, within, size-least, short-12, short-13}
 use Rattle.header.specs.Answers.{Block, read-whole, padding-whole, number-block, block-of}
 use Rattle.header.specs.Values.{value-fits, numbers-fit, nums-past}
 use Rattle.header_write.specs.Bytes.{startBack, evlrBack, valueOf}
@@ -43,13 +43,6 @@ module _ (a n : ℕ) where
 large-fits : (b : List ℕ) → Bytes b → (t : Bool) → let l = cond t (largeRead b) noLarge in Fits (kind NumberOfPointRecords) (l .«number_of_point_records») × Fits (kind NumberOfPointsByReturn) (l .«number_of_points_by_return»)
 large-fits b bs true = (num-lt 8 b (place NumberOfPointRecords) bs, numbers-fit b bs 15 8 (place NumberOfPointsByReturn))
 large-fits b bs false = (omega arith, subst (Fits (kind NumberOfPointsByReturn)) (nums-past 8 15 0 [] (omega arith)) (numbers-fit [] (λ k. omega arith) 15 8 0))
-
--- a version's block is as short as what it lacks is far
-short-12 : (m : ℕ) → m < 3 → size (fieldsOf m) ≤ 227
-short-12 m h = by-version (λ fs. size fs ≤ 227) m (λ l. omega arith) (λ e. absurd (omega arith)) (λ l. absurd (omega arith))
-
-short-13 : (m : ℕ) → m < 4 → size (fieldsOf m) ≤ 235
-short-13 m h = by-version (λ fs. size fs ≤ 235) m (λ l. omega arith) (λ e. omega arith) (λ l. absurd (omega arith))
 
 -- the header in a block of its version's size, where the padding ends where the field says
 module _ (b padding : List ℕ) (bs : Bytes b) (k : Block b) where

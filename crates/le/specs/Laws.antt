@@ -1,12 +1,12 @@
 -- Laws of little-endian numbers, each once over the width.
-use Prim.Native.Nat.{ℕ, zero, suc, _+_, _*_, _/_, _%_, _^_, _<_, _≤_}
+use Prim.Native.Nat.{ℕ, zero, suc, _+_, _-_, _*_, _/_, _%_, _^_, _<_, _≤_}
 use mathlib.Core.Path.{_≡_, refl, ap, sym, _∙_}
 use mathlib.Core.List.{List, [], _∷_, _++_, append-nil}
-use native.Mathlib.Nat.{zero-add, suc-add, pow-succ', mul-assoc, add-assoc, add-zero, div-div-eq-div-mul}
+use native.Mathlib.Nat.{zero-add, suc-add, sub-zero, zero-sub, suc-sub-suc, pow-succ', mul-assoc, add-assoc, add-zero, div-div-eq-div-mul}
 use native.Mathlib.Numerals.{one-add}
 use native.Mathlib.Omega.{arith}
 use lib.ListN.{getD, take, drop, length, length-drop, drop-of-length-le}
-use lib.Seq.{drop-cons, drop-drop, getD-drop, getD-take, take-add, take-take, take-at, drop-at}
+use lib.Seq.{drop-cons, drop-drop, getD-drop, getD-take, take-add, take-take, take-nil, take-at, drop-at}
 use Rattle.le.specs.Le.{le, num, bytes, bytesFrom, Bytes}
 
 -- the bytes of a number are those of its low part and of its high part
@@ -36,6 +36,13 @@ num-byte s at x e = omega (arith, sym (getD-take 1 (drop at s) 0 0 (omega arith)
 
 pub one-byte : (x : ℕ) → x < 256 → x ∷ [] ≡ bytes 1 x
 one-byte x h = let e : x ≡ x % 256 = omega arith in ap (λ (n : ℕ). n ∷ []) e
+
+-- what is left of a part
+pub drop-take : (k n : ℕ) (s : List ℕ) → drop k (take n s) ≡ take (n - k) (drop k s)
+drop-take zero n s = rw sub-zero
+drop-take (suc k) zero s = rw zero-sub
+drop-take (suc k) (suc n) [] = rw take-nil
+drop-take (suc k) (suc n) (x ∷ s) = rw suc-sub-suc (drop-take k n s)
 
 -- a part of bytes is bytes
 pub bytes-take : (n : ℕ) (s : List ℕ) → Bytes s → Bytes (take n s)

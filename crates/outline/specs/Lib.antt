@@ -1,2 +1,2 @@
--- definitions, with two laws of them
+-- definitions, with laws of them
 pub mod Outline

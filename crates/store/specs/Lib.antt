@@ -2,3 +2,4 @@
 pub mod Window
 -- laws
 pub mod Laws
+pub mod Parts
