@@ -1,0 +1,4 @@
+-- definitions
+pub mod Tally
+-- laws
+pub mod Laws
