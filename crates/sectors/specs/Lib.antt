@@ -1,0 +1,7 @@
+-- definitions
+pub mod Sectors
+-- laws
+pub mod Header
+pub mod Runs
+pub mod Laws
+pub mod After
