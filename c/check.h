@@ -48,6 +48,7 @@ void test_points(void);
 void test_vlrs(void);
 void test_headers(void);
 void test_files(void);
+void test_append(void);
 void test_conversion(void);
 
 /* A whole small file of version 1.4, with every kind of part, into dst; its bytes. */

@@ -30,8 +30,8 @@
  * numbers are ignored, and of a number too wide for its field the low bits count, but for the length of a VLR's data, which
  * las_vlr_write refuses. Texts are bytes and need not end with 0.
  *
- * A walker's place and a cursor are numbers that the caller keeps from call to call. Every number in them means something,
- * so that one made by hand is taken too.
+ * A walker's place, a cursor and a sweep are numbers that the caller keeps from call to call. Every number in them means
+ * something, so that one made by hand is taken too.
  *
  * The numbers and rules are those of LAS 1.4 R15. "Allowance" is how many VLRs and EVLRs a call may go through before it
  * refuses, to bound its time on hostile files; UINT64_MAX takes every file.
@@ -86,7 +86,11 @@ enum {
     LAS_REFUSED_VLR_DATA_LENGTH = 24,   /* the stated length */
     LAS_REFUSED_ATTRIBUTES = 25,        /* 0 */
     LAS_REFUSED_NO_PAIR = 26,           /* the format byte */
-    LAS_REFUSED_INDEX = 27              /* the count of points */
+    LAS_REFUSED_INDEX = 27,             /* the count of points */
+    LAS_REFUSED_NOT_VERSION_1_2 = 28,   /* 0, here and below */
+    LAS_REFUSED_NO_RECORDS = 29,
+    LAS_REFUSED_COUNT_NEITHER = 30,
+    LAS_REFUSED_COUNT_TOO_LARGE = 31
 };
 
 /* Some of the caller's bytes, as two numbers: where they start in the slice that was lent, and how many there are. Where there
@@ -497,6 +501,88 @@ void las_file_record(const uint8_t *file, size_t file_len, const uint64_t place[
  * Refuses as las_file_check does, then with LAS_REFUSED_NO_ROOM, and leaves dst. */
 void las_file_rewrite(const uint8_t *file, size_t file_len, uint64_t allowance, uint8_t *dst, size_t dst_len,
                       uint64_t row[3]);
+
+/* ---- appending ---- */
+
+/* Records are added to a file of version 1.2 that is lent in a buffer longer than its points, so that adding them again, after
+ * a cut of the power, does no harm: they are added, or they are found to be in already. The room behind the points is the
+ * file's last gap.
+ *
+ * "Believed" is the count of points that stood in the file before the records came. Keep it, with the records and the bounds,
+ * from before they are first offered until they are in. Never read it again from the header after a cut: where the records
+ * were in by then, the header counts them, and they would be added a second time. No check can see that.
+ *
+ * Firmware that writes the sectors of a card itself takes las_append in steps. The buffer holds the file as it is on the card.
+ *   1. las_append_begin, once. Go on where it answers LAS_APPEND_ADDED.
+ *   2. las_append_store for each k from 0 on, below las_append_stores. Each changes one sector of the buffer, and tells which:
+ *      write that sector to the card, as it is then, at its place in the file, before the next call. The sectors that the
+ *      records touch come first, ascending, each with the old header, and sector 0 with the new one comes last.
+ *   3. Sync before the last write, so that all other sectors are on the card; write sector 0; sync again. Only then forget
+ *      the records.
+ * Where the records begin in sector 0, it is written twice: first with them and the old header, at last with the new one.
+ * The card must store a sector whole or not at all, and sync must say that it has; then a cut at any moment leaves a file that
+ * las_file_check accepts, with exactly the old points or exactly the old and the new. Read it into the buffer again, and start
+ * again at 1 with the same records, bounds and belief: it ends as if it had never been cut. */
+
+/* The value of an append that is not refused. */
+enum {
+    LAS_APPEND_ADDED = 0,
+    LAS_APPEND_ALREADY_IN = 1
+};
+
+/* The places of the bounds, each the bits of a double: the order of a header's. */
+enum {
+    LAS_BOUNDS_MAX_X = 0,
+    LAS_BOUNDS_MIN_X = 1,
+    LAS_BOUNDS_MAX_Y = 2,
+    LAS_BOUNDS_MIN_Y = 3,
+    LAS_BOUNDS_MAX_Z = 4,
+    LAS_BOUNDS_MIN_Z = 5,
+    LAS_BOUNDS_NUMBERS = 6
+};
+
+/* The places of a sweep's numbers, which the caller keeps between calls. */
+enum {
+    LAS_SWEEP_AT = 0,        /* the first byte of its records in the file, which is the end of the file's points */
+    LAS_SWEEP_BYTES = 1,     /* the bytes of its records */
+    LAS_SWEEP_POINTS = 2,    /* the header's count of points with them; of this and the five below the low 32 bits count */
+    LAS_SWEEP_BY_RETURN = 3, /* 5 numbers */
+    LAS_SWEEP_NUMBERS = 8
+};
+
+/* The bytes of a sector; the buffer's last may have less. */
+enum {
+    LAS_SECTOR_BYTES = 512
+};
+
+/* Adds n records to the file: their bytes right after its points, and in its header the count, the five counts by return,
+ * which count returns 1 to 5 and no others, and the bounds, whatever their bits; the value is LAS_APPEND_ADDED. Nothing else
+ * changes. Or the file counts believed + n points and the last n of them are these bytes: then the value is
+ * LAS_APPEND_ALREADY_IN, and nothing changes; the bounds are not looked at. A record has as many bytes as the header says, and
+ * bytes past the n-th are ignored. Refuses the buffer as las_file_check does, then with LAS_REFUSED_NOT_VERSION_1_2;
+ * LAS_REFUSED_NO_RECORDS where n is 0; LAS_REFUSED_SHORT where there are fewer than n records; LAS_REFUSED_COUNT_NEITHER where
+ * the file counts neither believed points nor believed + n with these bytes last; LAS_REFUSED_COUNT_TOO_LARGE where a count
+ * would be over 2^32 - 1; LAS_REFUSED_NO_ROOM where the records would end beyond the buffer. */
+void las_append(uint8_t *file, size_t file_len, uint64_t allowance, const uint8_t *records, size_t records_len, uint64_t n,
+                const uint64_t bounds[6], uint64_t believed, uint64_t row[3]);
+
+/* What las_append would answer, and nothing of the file is changed: where the value is LAS_APPEND_ADDED, the records are to be
+ * added, by the stores of the sweep that is written; else the sweep is left. Refuses as las_append does. Of the points it
+ * looks at the last n alone. */
+void las_append_begin(const uint8_t *file, size_t file_len, uint64_t allowance, const uint8_t *records, size_t records_len,
+                      uint64_t n, uint64_t believed, uint64_t sweep[8], uint64_t row[3]);
+
+/* How many stores a sweep takes: one for each sector from that of its first byte up to its end, and then one for sector 0. */
+uint64_t las_append_stores(const uint64_t sweep[8]);
+
+/* Makes the k-th store of a sweep in the file, counted from 0: in the k-th sector that the records touch their bytes; after
+ * these, in sector 0, the header's counts and bounds. No other byte changes. The sector's first byte and its bytes are told as
+ * a span, and the value is its bytes, which is what is to be written to the card. Past the last store nothing changes, and the
+ * value and both numbers of the span are 0. Refuses with LAS_REFUSED_SHORT where there are fewer bytes than the sweep's, then
+ * with LAS_REFUSED_NO_ROOM where they would end beyond the buffer. A sweep made by hand is taken too; of what it puts past the
+ * buffer's end nothing is written. */
+void las_append_store(uint8_t *file, size_t file_len, const uint64_t sweep[8], const uint8_t *records, size_t records_len,
+                      const uint64_t bounds[6], uint64_t k, uint64_t sector[2], uint64_t row[3]);
 
 /* ---- conversion ---- */
 
