@@ -2,7 +2,7 @@
 
 use crate::{
     refusal::Refusal,
-    sys::{self, HeaderNumbers},
+    sys::{self, BoundsNumbers, HeaderNumbers},
     text,
 };
 use std::{borrow::Cow, fmt};
@@ -54,6 +54,14 @@ pub struct Bounds {
     pub min: [f64; 3],
     /// The largest x, y and z.
     pub max: [f64; 3],
+}
+
+impl Bounds {
+    /// The bits of the bounds in the library's order.
+    pub(crate) fn numbers(&self) -> BoundsNumbers {
+        let ([min_x, min_y, min_z], [max_x, max_y, max_z]) = (self.min, self.max);
+        [max_x, min_x, max_y, min_y, max_z, min_z].map(f64::to_bits)
+    }
 }
 
 /// A header, field by field in the standard's order.

@@ -62,6 +62,9 @@
 //! # }
 //! ```
 //!
+//! A scanner makes a file of LAS 1.2 by [`NewFile`], opens it as a [`Writer`], and appends sweep after sweep: an [`Append`] can be
+//! cut short by a brownout anywhere, and repeated without harm.
+//!
 //! What is proved, and what is trusted, is in `docs/TRUST.md` of the repository: the rules, layouts and conversions are
 //! proved; this crate, which turns the library's numbers into types, and `inscjarol-sys` under it, which declares the
 //! library's calls by hand, are tested.
@@ -81,26 +84,34 @@
 )]
 
 mod angle;
+mod append;
 mod convert;
+mod error;
 mod file;
 mod flags;
 mod format;
 mod header;
 mod map;
+mod new;
 mod point;
 mod refusal;
 mod sys;
 mod text;
 mod vlr;
+mod writer;
 
 pub use angle::ScanAngle;
+pub use append::{Append, Appended, Offer, Sector, Step, Sweep};
 pub use convert::Run;
+pub use error::Error;
 pub use file::{allowance_for, Checked, File, Part, PartKind, Parts, Points, Vlrs};
 pub use flags::{Flags, ScanDirection};
 pub use format::Format;
 pub use header::{Bounds, Evlrs, Header, LargeFile, Version};
 pub use map::Mapped;
+pub use new::NewFile;
 pub use point::{Color, Point, Waveform};
 pub use refusal::{Kind, Refusal};
 pub use text::text;
 pub use vlr::Vlr;
+pub use writer::Writer;

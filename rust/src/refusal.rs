@@ -62,13 +62,21 @@ pub enum Kind {
     NoPair,
     /// 27: there are no more points.
     Index,
+    /// 28: records are to be appended to a file that is not of version 1.2.
+    NotVersion12,
+    /// 29: no records were offered.
+    NoRecords,
+    /// 30: the file counts neither the points that were believed to be there, nor these and the offered records as the last.
+    CountNeither,
+    /// 31: with the offered records a count would be over 2^32 - 1.
+    CountTooLarge,
     /// A number that this version of the crate does not know.
     Unknown(u64),
 }
 
 impl Kind {
     /// Every kind that has a number, in the table's order.
-    const ALL: [Kind; 27] = [
+    const ALL: [Kind; 31] = [
         Kind::Short,
         Kind::Signature,
         Kind::Version,
@@ -96,6 +104,10 @@ impl Kind {
         Kind::Attributes,
         Kind::NoPair,
         Kind::Index,
+        Kind::NotVersion12,
+        Kind::NoRecords,
+        Kind::CountNeither,
+        Kind::CountTooLarge,
     ];
 
     /// The kind with this number.
@@ -137,6 +149,10 @@ impl Kind {
             Kind::Attributes => 25,
             Kind::NoPair => 26,
             Kind::Index => 27,
+            Kind::NotVersion12 => 28,
+            Kind::NoRecords => 29,
+            Kind::CountNeither => 30,
+            Kind::CountTooLarge => 31,
             Kind::Unknown(number) => number,
         }
     }
@@ -171,6 +187,10 @@ impl Kind {
             Kind::Attributes => "attributes",
             Kind::NoPair => "no pair",
             Kind::Index => "index",
+            Kind::NotVersion12 => "not version 1.2",
+            Kind::NoRecords => "no records",
+            Kind::CountNeither => "count neither",
+            Kind::CountTooLarge => "count too large",
             Kind::Unknown(_) => "unknown",
         }
     }
@@ -215,7 +235,7 @@ impl Refusal {
         self.kind
     }
 
-    /// The number in the library's table, 1 to 27.
+    /// The number in the library's table, 1 to 31.
     pub fn number(&self) -> u64 {
         self.kind.number()
     }
@@ -410,6 +430,21 @@ impl fmt::Display for Refusal {
                  and 5 new ones (6, 7, 9, 10)"
             ),
             Kind::Index => write!(f, "there are no more points: the file has {value}"),
+            Kind::NotVersion12 => f.write_str(
+                "records can be appended to LAS 1.2 alone, and the file is of another version (header bytes 24 and 25)",
+            ),
+            Kind::NoRecords => {
+                f.write_str("no records were offered; an empty sweep needs no append")
+            }
+            Kind::CountNeither => f.write_str(
+                "the file has neither as many points as were believed to be there, nor these and then the offered records \
+                 as its last; another program may have appended meanwhile, or the count that was believed, or the records, \
+                 are of another sweep",
+            ),
+            Kind::CountTooLarge => f.write_str(
+                "with the offered records the count of points (header byte 107) or of a return (header bytes 111 to 130) \
+                 would be over 4294967295, which is the most that LAS 1.2 can count; another file has to be begun",
+            ),
             Kind::Unknown(number) => write!(
                 f,
                 "refusal {number} with value {value}, which this version of the crate does not know"
@@ -429,7 +464,8 @@ mod tests {
         }
         assert_eq!(Kind::from_number(0), Kind::Unknown(0));
         assert_eq!(Kind::from_number(27), Kind::Index);
-        assert_eq!(Kind::from_number(28), Kind::Unknown(28));
+        assert_eq!(Kind::from_number(31), Kind::CountTooLarge);
+        assert_eq!(Kind::from_number(32), Kind::Unknown(32));
         assert_eq!(Kind::from_number(u64::MAX), Kind::Unknown(u64::MAX));
     }
 
@@ -437,7 +473,7 @@ mod tests {
     fn every_kind_has_a_name_and_a_sentence_of_its_own() {
         let mut names = Vec::new();
         let mut sentences = Vec::new();
-        for number in 1..=27 {
+        for number in 1..=31 {
             let refusal = Refusal::from_row(number, 7, 3);
             names.push(refusal.name());
             sentences.push(refusal.to_string());
@@ -446,7 +482,7 @@ mod tests {
         names.dedup();
         sentences.sort_unstable();
         sentences.dedup();
-        assert_eq!((names.len(), sentences.len()), (27, 27));
+        assert_eq!((names.len(), sentences.len()), (31, 31));
         assert!(sentences.iter().all(|words| !words.ends_with('.')));
     }
 

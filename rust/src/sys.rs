@@ -3,7 +3,9 @@
 
 use crate::refusal::Refusal;
 use inscjarol_sys as calls;
-pub(crate) use inscjarol_sys::{Cursor, HeaderNumbers, Place, PointNumbers, VlrHead};
+pub(crate) use inscjarol_sys::{
+    BoundsNumbers, Cursor, HeaderNumbers, Place, PointNumbers, Sweep, VlrHead,
+};
 
 /// A row's answer: its value where the number is 0, else the refusal.
 fn answer(row: calls::Row) -> Result<u64, Refusal> {
@@ -294,6 +296,48 @@ pub(crate) fn file_next(file: &[u8], place: &mut Place) -> Result<PointNumbers, 
 
 pub(crate) fn file_rewrite(file: &[u8], allowance: u64, dst: &mut [u8]) -> Result<usize, Refusal> {
     asked(|row| calls::las_file_rewrite(file, allowance, dst, row)).map(in_memory)
+}
+
+// Calls that append records: an offer is the records, how many they are, and how many points are believed to be there.
+
+/// Whether the records were already in; else they were added.
+pub(crate) fn append(
+    file: &mut [u8],
+    allowance: u64,
+    offer: (&[u8], u64, u64),
+    bounds: &BoundsNumbers,
+) -> Result<bool, Refusal> {
+    asked(|row| calls::las_append(file, allowance, offer, bounds, row)).map(|value| value == 1)
+}
+
+/// The sweep by which the records are to be added; none where they are already in.
+pub(crate) fn append_begin(
+    file: &[u8],
+    allowance: u64,
+    offer: (&[u8], u64, u64),
+) -> Result<Option<Sweep>, Refusal> {
+    let mut sweep = [0; 8];
+    asked(|row| calls::las_append_begin(file, allowance, offer, &mut sweep, row))
+        .map(|value| (value == 0).then_some(sweep))
+}
+
+pub(crate) fn append_stores(sweep: &Sweep) -> u64 {
+    calls::las_append_stores(sweep)
+}
+
+/// Start and length of the sector that was stored; none past the last store.
+pub(crate) fn append_store(
+    file: &mut [u8],
+    sweep: &Sweep,
+    records: &[u8],
+    bounds: &BoundsNumbers,
+    k: u64,
+) -> Result<Option<(u64, u64)>, Refusal> {
+    let mut sector = [0; 2];
+    let stored =
+        asked(|row| calls::las_append_store(file, sweep, records, bounds, k, &mut sector, row));
+    let [start, len] = sector;
+    stored.map(|bytes| (bytes > 0).then_some((start, len)))
 }
 
 // Calls on runs of records: a format byte, a count of extra bytes and a count of records.

@@ -17,6 +17,8 @@ fn fenced<'a>(text: &'a str, language: &str) -> Vec<&'a str> {
 #[test]
 fn its_rust_is_the_examples() {
     let readme = fs::read_to_string(repository().join("README.md")).unwrap();
-    let heights = fs::read_to_string(repository().join("rust/examples/heights.rs")).unwrap();
-    assert_eq!(fenced(&readme, "rust"), [heights]);
+    let example =
+        |name: &str| fs::read_to_string(repository().join("rust/examples").join(name)).unwrap();
+    let examples = [example("heights.rs"), example("scanner.rs")];
+    assert_eq!(fenced(&readme, "rust"), examples);
 }

@@ -26,7 +26,7 @@ const NOT_ACCEPTED: (&str, &str, &str) = ("accepted", "false", "it is none");
 const NUMBER: (&str, &str, &str) = (
     "refusal.number",
     "number",
-    "1 to 27, by the library's table",
+    "1 to 31, by the library's table",
 );
 const KIND: (&str, &str, &str) = ("refusal.name", "text", "what the table calls it");
 const VALUE: (&str, &str, &str) = (
@@ -169,6 +169,42 @@ const OBJECTS: &[(&str, Fields)] = &[
                 "true or false",
                 "whether they are those of IN",
             ),
+        ],
+    ),
+    (
+        "append, where it is refused:",
+        &[
+            NAME,
+            (
+                "accepted",
+                "false",
+                "it is none, or does not take the records",
+            ),
+            NUMBER,
+            KIND,
+            VALUE,
+            RECORD,
+            WORDS,
+        ],
+    ),
+    (
+        "append, where it is not refused:",
+        &[
+            NAME,
+            ACCEPTED,
+            (
+                "appended",
+                "text or null",
+                "added or already in; null without RECORDS",
+            ),
+            ("records", "number", "records that were offered"),
+            ("points", "number", "points that there are now"),
+            (
+                "room",
+                "number",
+                "records for which there is room behind them",
+            ),
+            ("bytes", "number", "bytes of the file"),
         ],
     ),
 ];

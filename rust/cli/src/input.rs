@@ -72,23 +72,32 @@ fn standard_input() -> io::Result<File> {
 impl Input {
     /// Opens a file; `-` is the standard input.
     pub(crate) fn open(name: &OsStr) -> io::Result<Input> {
+        Input::named(name, like_las)
+    }
+
+    /// The same, of bytes that are no LAS file.
+    pub(crate) fn open_raw(name: &OsStr) -> io::Result<Input> {
+        Input::named(name, |_| true)
+    }
+
+    fn named(name: &OsStr, goes_on: fn(&[u8]) -> bool) -> io::Result<Input> {
         if name == "-" {
-            return Input::of(standard_input()?);
+            return Input::of(standard_input()?, goes_on);
         }
         let path = Path::new(name);
         // To open a device may do something: what it is is asked first.
         readable(fs::metadata(path)?.file_type())?;
-        Input::of(File::open(path)?)
+        Input::of(File::open(path)?, goes_on)
     }
 
-    /// What an open file has from its place on.
-    fn of(mut file: File) -> io::Result<Input> {
+    /// What an open file has from its place on; of a stream that is not worth it by its beginning, that alone.
+    fn of(mut file: File, goes_on: fn(&[u8]) -> bool) -> io::Result<Input> {
         let about = file.metadata()?;
         readable(about.file_type())?;
         // Of a regular file that somebody has read from already only the rest counts.
         match about.is_file() && matches!(file.stream_position(), Ok(0)) {
             true => os::map(&file).map(Input::Mapped),
-            false => read(file, free()).map(Input::Read),
+            false => read(file, free(), goes_on).map(Input::Read),
         }
     }
 
@@ -118,13 +127,21 @@ const PIECE: u64 = 1 << 20;
 /// As much of a file as tells whether it is one of LAS at all.
 const BEGINNING: u64 = 512;
 
-/// All that comes from a stream, as long as there is memory for it. What does not begin like a LAS file is not read on:
-/// nothing that follows could make it one.
-fn read(mut stream: impl Read, free: Option<u64>) -> io::Result<Vec<u8>> {
+/// Whether these bytes may be the beginning of a LAS file: else nothing that follows could make it one.
+fn like_las(beginning: &[u8]) -> bool {
+    let refused = inscjarol::File::check(beginning).map_err(|refusal| refusal.kind());
+    !matches!(refused, Err(Kind::Signature | Kind::Version))
+}
+
+/// All that comes from a stream, as long as there is memory for it, and as its beginning lets it go on.
+fn read(
+    mut stream: impl Read,
+    free: Option<u64>,
+    goes_on: fn(&[u8]) -> bool,
+) -> io::Result<Vec<u8>> {
     let mut bytes = Vec::new();
     stream.by_ref().take(BEGINNING).read_to_end(&mut bytes)?;
-    let refused = inscjarol::File::check(&bytes).map_err(|refusal| refusal.kind());
-    if matches!(refused, Err(Kind::Signature | Kind::Version)) {
+    if !goes_on(&bytes) {
         return Ok(bytes);
     }
     let mut piece = Vec::new();
@@ -285,14 +302,16 @@ mod tests {
 
     #[test]
     fn a_stream_without_end() {
-        let read = |front: &[u8]| read(Endless(front.to_vec()), Some(10_000_000));
+        let read = |front: &[u8]| read(Endless(front.to_vec()), Some(10_000_000), like_las);
         assert_eq!(read(b"").unwrap().len(), 512);
         assert_eq!(read(b"LASX").unwrap().len(), 512);
         let header = inscjarol::Header::default().to_vec(&[]).unwrap();
         let error = read(&header).unwrap_err();
         assert!(error.to_string().contains("longer than there is memory"));
-        let short = super::read(&header[..], Some(10)).unwrap();
+        let short = super::read(&header[..], Some(10), like_las).unwrap();
         assert_eq!(short, header);
+        let raw = super::read(&[7; 2_000][..], None, |_| true).unwrap();
+        assert_eq!(raw, [7; 2_000]);
     }
 
     #[test]

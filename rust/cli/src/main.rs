@@ -20,6 +20,7 @@
 // Clippy as Debian packages it asks for `write!` into a string, whose error would have to be dropped each time.
 #![allow(clippy::format_push_string)]
 
+mod append;
 mod args;
 mod check;
 mod decimal;
@@ -69,6 +70,7 @@ const COMMANDS: &[Command] = &[
     info::COMMAND,
     points::COMMAND,
     rewrite::COMMAND,
+    append::COMMAND,
 ];
 
 /// The options of every command.

@@ -3,7 +3,7 @@
 //! tool with `unsafe`.
 #![allow(unsafe_code)]
 
-use inscjarol::Mapped;
+use inscjarol::{Mapped, Writer};
 use libc::{c_char, c_int};
 use memmap2::{MmapMut, MmapOptions};
 use std::{
@@ -28,8 +28,14 @@ fn done(answer: c_int) -> io::Result<()> {
 /// Maps a file to be read.
 pub(crate) fn map(file: &File) -> io::Result<Mapped> {
     // SAFETY: that no other program changes the file while it is mapped is asked of the user, by the README and by
-    // docs/TRUST.md, which says what else may happen; the tool itself writes to no file that was there.
+    // docs/TRUST.md, which says what else may happen; the tool itself writes to no file that it reads so.
     unsafe { Mapped::of(file) }
+}
+
+/// Opens a file to be appended to, and locks it.
+pub(crate) fn writer(path: &Path) -> io::Result<Writer> {
+    // SAFETY: as above; other appends are kept out by the lock.
+    unsafe { Writer::open(path) }
 }
 
 /// Maps the first bytes of a file to be written.

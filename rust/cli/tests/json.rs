@@ -139,6 +139,12 @@ fn every_field_that_is_printed_is_told_and_every_one_that_is_told_is_printed() {
     let mut see = |command: &str, path: &Path, more: &[&Path]| {
         let mut tool = tool();
         tool.args(["--json", command]).arg(path).args(more);
+        if command == "append" {
+            tool.args(match more {
+                [] => ["--room", "7"],
+                _ => ["--believed", "2"],
+            });
+        }
         if command == "points" {
             // All of the standard's fields, also those that the format does not have.
             let of_points = told
@@ -156,11 +162,13 @@ fn every_field_that_is_printed_is_told_and_every_one_that_is_told_is_printed() {
             let sort = match (command, has("error"), has("refusal.number")) {
                 (_, true, _) => "every command, for a file that cannot be read or written:",
                 ("check", _, true) => "check, for a file that is refused:",
+                ("append", _, true) => "append, where it is refused:",
                 (_, _, true) => "parts, info, points and rewrite, for a file that is refused:",
                 ("check", ..) => "check, for a file that is accepted:",
                 ("parts", ..) => "parts, for a file that is accepted:",
                 ("info", ..) => "info, for a file that is accepted:",
                 ("rewrite", ..) => "rewrite, for a file that was written:",
+                ("append", ..) => "append, where it is not refused:",
                 _ => "points, for each point, the fields that were chosen; null where the point has none:",
             };
             assert!(in_order(&fields, &told[sort]), "{sort} {line}");
@@ -179,6 +187,11 @@ fn every_field_that_is_printed_is_told_and_every_one_that_is_told_is_printed() {
         }
         let name = path.file_name().unwrap().to_str().unwrap();
         see("rewrite", path, &[&folder.join(&format!("new-{name}"))]);
+    }
+    let records = folder.put("records", &[0; 40]);
+    for path in &files {
+        see("append", path, &[]);
+        see("append", path, &[&records]);
     }
 
     assert!(printed.keys().eq(told.keys()), "{:?}", told.keys());

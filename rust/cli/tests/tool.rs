@@ -1134,7 +1134,7 @@ fn help() {
         assert!(out.contains("Usage: inscjarol COMMAND") && out.contains("  rewrite "));
         assert_eq!((err.as_str(), status), ("", Some(0)));
     }
-    for command in ["check", "parts", "info", "points", "rewrite"] {
+    for command in ["check", "parts", "info", "points", "rewrite", "append"] {
         let (taught, _, status) = told(&run(&["help", command]));
         assert_eq!(status, Some(0));
         assert_eq!(told(&run(&[command, "--help"])).0, taught);

@@ -26,6 +26,13 @@ pub type Place = [u64; 7];
 /// Where some of the lent bytes start, and how many there are.
 pub type Span = [u64; 2];
 
+/// Records that are to be added to a file: where they go, their bytes, and the header's counts with them, of all points and of
+/// returns 1 to 5.
+pub type Sweep = [u64; 8];
+
+/// The bits of max x, min x, max y, min y, max z and min z.
+pub type BoundsNumbers = [u64; 6];
+
 /// A header, as the library lists it: its numbers and its texts.
 #[derive(Clone, Copy, Debug, PartialEq, Eq)]
 pub struct HeaderNumbers {
@@ -54,7 +61,7 @@ pub struct VlrHead {
 macro_rules! total {
     ($($(#[$says:meta])* fn $name:ident($($lent:ident: $of:ty),*) $(-> $answer:ty)?;)*) => {
         mod total {
-            use super::{PointNumbers, Row};
+            use super::{PointNumbers, Row, Sweep};
 
             extern "C" {
                 $(pub(super) fn $name($($lent: $of),*) $(-> $answer)?;)*
@@ -151,12 +158,15 @@ total! {
     fn las_vlr_head_size(extended: bool) -> u64;
     /// The bytes of a version's header without padding.
     fn las_header_size(major: u8, minor: u8, row: &mut Row);
+
+    /// How many stores a sweep takes.
+    fn las_append_stores(sweep: &Sweep) -> u64;
 }
 
 // A slice crosses as its pointer and its length: that the two belong together is what the functions below see to, each over
 // the declaration that it calls.
 mod lent {
-    use super::{Cursor, Place, PointNumbers, Row, Span};
+    use super::{BoundsNumbers, Cursor, Place, PointNumbers, Row, Span, Sweep};
 
     extern "C" {
         pub(super) fn las_point_read(
@@ -284,6 +294,40 @@ mod lent {
             allowance: u64,
             dst: *mut u8,
             dst_len: usize,
+            row: &mut Row,
+        );
+
+        pub(super) fn las_append(
+            file: *mut u8,
+            len: usize,
+            allowance: u64,
+            records: *const u8,
+            records_len: usize,
+            n: u64,
+            bounds: &BoundsNumbers,
+            believed: u64,
+            row: &mut Row,
+        );
+        pub(super) fn las_append_begin(
+            file: *const u8,
+            len: usize,
+            allowance: u64,
+            records: *const u8,
+            records_len: usize,
+            n: u64,
+            believed: u64,
+            sweep: &mut Sweep,
+            row: &mut Row,
+        );
+        pub(super) fn las_append_store(
+            file: *mut u8,
+            len: usize,
+            sweep: &Sweep,
+            records: *const u8,
+            records_len: usize,
+            bounds: &BoundsNumbers,
+            k: u64,
+            sector: &mut Span,
             row: &mut Row,
         );
 
@@ -546,6 +590,61 @@ pub fn las_file_rewrite(file: &[u8], allowance: u64, dst: &mut [u8], row: &mut R
     let (to, to_len) = (dst.as_mut_ptr(), dst.len());
     // SAFETY: both pointers go with the lengths of their borrowed slices, of which the one written to is borrowed alone.
     unsafe { lent::las_file_rewrite(file.as_ptr(), file.len(), allowance, to, to_len, row) }
+}
+
+// Calls that append records: an offer is the records, how many they are, and how many points are believed to be there.
+
+/// Adds the records to the file, with these bounds; the value is 0 where they are added and 1 where they are already in.
+#[inline]
+pub fn las_append(
+    file: &mut [u8],
+    allowance: u64,
+    offer: (&[u8], u64, u64),
+    bounds: &BoundsNumbers,
+    row: &mut Row,
+) {
+    let (records, n, believed) = offer;
+    let (from, from_len) = (records.as_ptr(), records.len());
+    let (to, to_len) = (file.as_mut_ptr(), file.len());
+    // SAFETY: both pointers go with the lengths of their borrowed slices, of which the one written to is borrowed alone.
+    unsafe {
+        lent::las_append(
+            to, to_len, allowance, from, from_len, n, bounds, believed, row,
+        )
+    }
+}
+
+/// Judges an offer: the value is 0 where the records are to be added, by the sweep, and 1 where they are already in.
+#[inline]
+pub fn las_append_begin(
+    file: &[u8],
+    allowance: u64,
+    offer: (&[u8], u64, u64),
+    sweep: &mut Sweep,
+    row: &mut Row,
+) {
+    let (records, n, believed) = offer;
+    let (at, len) = (file.as_ptr(), file.len());
+    let (from, from_len) = (records.as_ptr(), records.len());
+    // SAFETY: both pointers go with the lengths of their borrowed slices.
+    unsafe { lent::las_append_begin(at, len, allowance, from, from_len, n, believed, sweep, row) }
+}
+
+/// Makes the k-th store of a sweep in the file, counted from 0, and tells its sector.
+#[inline]
+pub fn las_append_store(
+    file: &mut [u8],
+    sweep: &Sweep,
+    records: &[u8],
+    bounds: &BoundsNumbers,
+    k: u64,
+    sector: &mut Span,
+    row: &mut Row,
+) {
+    let (from, from_len) = (records.as_ptr(), records.len());
+    let (to, to_len) = (file.as_mut_ptr(), file.len());
+    // SAFETY: both pointers go with the lengths of their borrowed slices, of which the one written to is borrowed alone.
+    unsafe { lent::las_append_store(to, to_len, sweep, from, from_len, bounds, k, sector, row) }
 }
 
 // Calls on runs of records: a format byte, a count of extra bytes and a count of records.

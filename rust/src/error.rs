@@ -1,0 +1,58 @@
+//! What goes wrong with files on the disk.
+
+use crate::refusal::Refusal;
+use std::{error, fmt, io};
+
+/// Why a file on the disk was not made or not appended to.
+#[derive(Debug)]
+#[non_exhaustive]
+pub enum Error {
+    /// The library refused it. Nothing was written.
+    Refused(Refusal),
+    /// A setting of a new file is none that a file can have; a sentence says which. Nothing was written.
+    Setting(String),
+    /// The system could not do it. What an append has written until then does no harm: it is to be repeated.
+    Io(io::Error),
+}
+
+impl Error {
+    /// The library's refusal, if it is one.
+    pub fn refusal(&self) -> Option<Refusal> {
+        match self {
+            Error::Refused(refusal) => Some(*refusal),
+            _ => None,
+        }
+    }
+}
+
+impl fmt::Display for Error {
+    fn fmt(&self, f: &mut fmt::Formatter<'_>) -> fmt::Result {
+        match self {
+            Error::Refused(refusal) => refusal.fmt(f),
+            Error::Setting(words) => f.write_str(words),
+            Error::Io(error) => error.fmt(f),
+        }
+    }
+}
+
+impl error::Error for Error {
+    fn source(&self) -> Option<&(dyn error::Error + 'static)> {
+        match self {
+            Error::Refused(refusal) => Some(refusal),
+            Error::Setting(_) => None,
+            Error::Io(error) => Some(error),
+        }
+    }
+}
+
+impl From<Refusal> for Error {
+    fn from(refusal: Refusal) -> Error {
+        Error::Refused(refusal)
+    }
+}
+
+impl From<io::Error> for Error {
+    fn from(error: io::Error) -> Error {
+        Error::Io(error)
+    }
+}
