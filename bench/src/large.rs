@@ -153,7 +153,7 @@ impl Work {
 }
 
 /// How many pages the system has brought to this process so far, those aside that it had to read from a disk.
-fn faults() -> u64 {
+pub fn faults() -> u64 {
     let stat = fs::read_to_string("/proc/self/stat").expect("the system's account of this process");
     // The tenth word; the second is a name in brackets.
     let (_, after) = stat.rsplit_once(')').expect("a name in brackets");

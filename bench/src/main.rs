@@ -3,11 +3,12 @@
 //!
 //! Every round times each contender once, in turn, so that what slows the machine for a while slows them all.
 
+mod append;
 mod by_hand;
 mod large;
 mod work;
 
-use std::time::Instant;
+use std::{hint::black_box, time::Instant};
 use work::{CHECKS, Work};
 
 /// The same work done three ways, over so many records of a format code.
@@ -149,6 +150,9 @@ fn timed(units: usize, work: impl FnOnce()) -> f64 {
 /// How many rounds a large file is timed for.
 const LARGE_ROUNDS: usize = 401;
 
+/// How many rounds an append is timed for.
+const APPEND_ROUNDS: usize = 2_001;
+
 /// How many rounds a line of so many records is timed for; an odd number, for the median.
 fn rounds(records: usize) -> usize {
     (100_000_000 / records).clamp(11, 401) | 1
@@ -259,6 +263,47 @@ fn check_large() {
     }
 }
 
+/// A row for each file that records are added to: medians in microseconds, and what was written and touched.
+fn append() {
+    println!(
+        "| points | file bytes | append | file check | judgement | stores | already in | memcpy | sectors stored | their bytes | pages: judgement | stores | of the records' place |"
+    );
+    println!("|---|---|---|---|---|---|---|---|---|---|---|---|---|");
+    for count in append::SIZES {
+        let mut work = append::Work::new(count);
+        let pages = work.pages();
+        let sweep = work.begin();
+        let [sectors, bytes] = work.stores(&sweep);
+        work.check_made();
+        let mut times = [(); 6].map(|()| Times(Vec::new()));
+        for _ in 0..APPEND_ROUNDS {
+            let [append, check, judgement, stores, already_in, memcpy] = &mut times;
+            append.0.push(timed(1, || work.append(0)));
+            already_in.0.push(timed(1, || work.append(1)));
+            work.restore();
+            let checks = || (0..CHECKS).for_each(|_| work.check());
+            check.0.push(timed(CHECKS, checks));
+            judgement.0.push(timed(1, || {
+                black_box(work.begin());
+            }));
+            stores.0.push(timed(1, || {
+                black_box(work.stores(&sweep));
+            }));
+            memcpy.0.push(timed(1, || work.copy()));
+            work.restore();
+        }
+        let [append, check, judgement, stores, already_in, memcpy] =
+            times.each_mut().map(|times| times.median() / 1_000.0);
+        println!(
+            "| {count} | {} | {append:.1} | {check:.3} | {judgement:.1} | {stores:.1} | {already_in:.1} | {memcpy:.1} | {sectors} | {bytes} | {} | {} | {} |",
+            work.bytes(),
+            pages[0],
+            pages[1],
+            pages[2],
+        );
+    }
+}
+
 fn main() {
     println!("Nanoseconds a record, of the file check nanoseconds a call; medians.\n");
     compare();
@@ -268,4 +313,9 @@ fn main() {
     grow();
     println!("\nThe file check of files of 1 GiB: nanoseconds a call; shortest times.\n");
     check_large();
+    println!(
+        "\nAn append of {} records: microseconds a call, medians; and the pages of the file that were touched for the first time.\n",
+        append::RECORDS
+    );
+    append();
 }

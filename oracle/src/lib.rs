@@ -20,6 +20,9 @@ macro_rules! errors {
 
 pub mod angle;
 pub mod answer;
+pub mod append;
+pub mod append_model;
+pub mod append_wrong;
 pub mod call;
 pub mod capi;
 pub mod convert;
@@ -37,7 +40,9 @@ pub mod listings;
 pub mod point;
 pub mod records;
 pub mod replay;
+pub mod replay_append;
 pub mod replay_records;
 pub mod report;
+pub mod sparse;
 pub mod strict;
 pub mod vlr;

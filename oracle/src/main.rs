@@ -1,8 +1,8 @@
 //! Runs every comparison and says whether nothing differed.
 
 use oracle::{
-    angle, convert, convert_plain, file, flags, format, header, listings, point, replay,
-    replay_records, report::Tally, strict, vlr,
+    angle, append, convert, convert_plain, file, flags, format, header, listings, point, replay,
+    replay_append, replay_records, report::Tally, strict, vlr,
 };
 use std::{env, fs, io, path::Path, process::ExitCode};
 
@@ -16,12 +16,14 @@ fn compare(crates: &Path, write: bool) -> io::Result<bool> {
     vlr::compare(&mut tally);
     header::compare(&mut tally);
     file::compare(&mut tally);
+    append::compare(&mut tally);
     strict::compare(&mut tally);
     convert::compare(&mut tally);
     convert_plain::compare(&mut tally, &crates.join("../docs/DIFFERENCES.md"))?;
     replay::compare(&mut tally, &crates.join("replay"), write)?;
     replay_records::compare(&mut tally, &crates.join("replay_records"), write)?;
     listings::compare(&mut tally, &crates.join("listings"), write)?;
+    replay_append::compare(&mut tally, &crates.join("../c/replay"), write)?;
     tally.covers(&fs::read_to_string(crates.join("../include/inscjarol.h"))?);
     Ok(tally.agreed())
 }
