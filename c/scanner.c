@@ -40,6 +40,7 @@ static bool offer(void) {
         return true;
     }
     if (row[LAS_ROW_VALUE] == LAS_APPEND_ALREADY_IN) {
+        sync(); /* the power may have failed after the last write and before its sync */
         printf("already in\n");
         return true;
     }

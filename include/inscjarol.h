@@ -513,7 +513,8 @@ void las_file_rewrite(const uint8_t *file, size_t file_len, uint64_t allowance, 
  * were in by then, the header counts them, and they would be added a second time. No check can see that.
  *
  * Firmware that writes the sectors of a card itself takes las_append in steps. The buffer holds the file as it is on the card.
- *   1. las_append_begin, once. Go on where it answers LAS_APPEND_ADDED.
+ *   1. las_append_begin, once. Go on where it answers LAS_APPEND_ADDED; at LAS_APPEND_ALREADY_IN sync, since the cut may have
+ *      come before the last sync, and forget the records.
  *   2. las_append_store for each k from 0 on, below las_append_stores. Each changes one sector of the buffer, and tells which:
  *      write that sector to the card, as it is then, at its place in the file, before the next call. The sectors that the
  *      records touch come first, ascending, each with the old header, and sector 0 with the new one comes last.
