@@ -1,5 +1,6 @@
--- definitions
+-- definitions, the second with the table's rule
 pub mod Angle
+pub mod Table
 -- laws
 pub mod Sign
 pub mod Ranks

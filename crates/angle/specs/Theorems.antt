@@ -8,6 +8,12 @@ use mir.Val.{SFits}
 use Rattle.angle.specs.Angle.{nearest, nearestRank, rankOf, scaledOf}
 use Rattle.angle.specs.Sign.{own-size, rank-size, scaled-size}
 use Rattle.angle.specs.Ranks.{rank-exact}
+use Rattle.angle.specs.Table.{scaledTable, entryOf, table-rule}
+
+-- Document 02, No. 4: "the same answers for every rank, but .. from a constant table of 256 numbers printed in the source, its rule proved once
+-- for all entries". What `scaled_table` answers is this table, entry by entry.
+pub every-rank : (r : ℤ) → SFits w8 r → entryOf scaledTable r ≡ scaledOf r
+every-rank = table-rule
 
 -- "the nearest whole number to 6n/1000, halves away from zero": 6n is less than a half above it and at most a half below; on the
 -- other side of zero `nearestRank` has the same size

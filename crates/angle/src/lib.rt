@@ -1,9 +1,14 @@
 // The scan angle of a point: a rank in whole degrees (formats 0 to 5) or a scaled angle in steps of 0.006 degrees
 // (formats 6 to 10). From src/raw/point.rs of las 0.11.2, its float route replaced by document 01's exact rules.
 ghost use mathlib.Core.Path.{_≡_};
-ghost use Rattle.angle.specs.Angle.{nearestRank, held, toRank, toScaled, toDegrees, fromDegrees, sameAngle, eqZ};
+ghost use Rattle.angle.specs.Angle.{nearestRank, held, scaledOf, toRank, toScaled, toDegrees, fromDegrees, sameAngle, eqZ};
+ghost use Rattle.angle.specs.Table.{scaledTable, entryOf, toScaledIn};
 ghost use lib.Ieee.{toSigned};
 ghost use lib.IntN.{pos, _*ℤ_};
+use le::signed;
+use table::SCALED;
+
+mod table;
 
 pub enum ScanAngle {
     Rank(i8),
@@ -36,6 +41,30 @@ fn same(r: i8, n: i16) -> bool
     ensures { λ b. ⌜ b ≡ eqZ (pos 500 *ℤ r) (pos 3 *ℤ n) ⌝ }
 {
     500 * (r as i32) == 3 * (n as i32)
+}
+
+// The table of scaled angles, of rank -128 first: for a loop over points, which makes it once and lends it to `to_scaled_in`. Where a
+// table is named in code it is made there, all of it.
+pub fn scaled_table() -> [i16; 256]
+    ensures { λ t. ⌜ t ≡ scaledTable ⌝ }
+{
+    SCALED
+}
+
+// The entry of a rank in such a table.
+fn entry(table: &[i16; 256], r: i8) -> i16
+    ensures { λ n. ⌜ n ≡ entryOf (now (table .entry)) r ⌝ }
+{
+    let place = ((signed::bits8(r) as usize) + 128) % 256;
+    table[place]
+}
+
+// The scaled angle of a rank, from the table.
+fn scaled(r: i8) -> i16
+    ensures { λ n. ⌜ n ≡ scaledOf r ⌝ }
+{
+    let table = scaled_table();
+    entry(&table, r)
 }
 
 // The weight of the sign in an f32's bits.
@@ -76,12 +105,22 @@ impl ScanAngle {
         }
     }
 
-    // The scaled angle: its own, or 500/3 of the rank, the fraction dropped.
+    // The scaled angle: its own, or 500/3 of the rank, the fraction dropped, as the table has it.
     pub fn to_scaled(self) -> i16
         ensures { λ r. ⌜ r ≡ toScaled self ⌝ }
     {
         match self {
-            ScanAngle::Rank(r) => (500 * (r as i32) / 3) as i16,
+            ScanAngle::Rank(r) => scaled(r),
+            ScanAngle::Scaled(n) => n,
+        }
+    }
+
+    // The same by a table that is lent; that of `scaled_table` gives what `to_scaled` does.
+    pub fn to_scaled_in(self, table: &[i16; 256]) -> i16
+        ensures { λ r. ⌜ (r ≡ toScaledIn (now (table .entry)) self) × (now (table .entry) ≡ scaledTable → r ≡ toScaled self) ⌝ }
+    {
+        match self {
+            ScanAngle::Rank(r) => entry(table, r),
             ScanAngle::Scaled(n) => n,
         }
     }

@@ -4,6 +4,7 @@ ghost use mathlib.Core.Path.{_≡_};
 ghost use mathlib.Core.List.{_++_};
 ghost use Prim.Native.Nat.{_*_, _≤_};
 ghost use lib.ListN.{length, drop};
+ghost use Rattle.angle.specs.Table.{scaledTable};
 ghost use Rattle.point.specs.Read.{pointOf};
 ghost use Rattle.pairs.specs.Sound.{Sound};
 ghost use Rattle.judge.specs.Laws.{Ready};
@@ -59,13 +60,14 @@ fn write(src: &[u8], plan: Plan, count: usize, up: bool, dst: &mut [u8])
     requires { ⌜ Sound up plan × (count * plan .«source_length» ≤ length (now src)) × (count * plan .«target_length» ≤ length (now dst)) × TakesRun up plan count (now src) ⌝ }
     ensures { λ _. ⌜ now (dst .exit) ≡ imagesOf up plan count (now (src .entry)) ++ drop (count * plan .«target_length») (now (dst .entry)) ⌝ }
 {
+    let table = angle::scaled_table();
     let m = plan.source_length;
     let n = plan.target_length;
     let mut at = 0;
     let mut to = 0;
     let mut left = count;
     while 0 < left {
-        write_record(&src[at..at + m], plan, up, &mut dst[to..]);
+        write_record(&src[at..at + m], plan, up, &table, &mut dst[to..]);
         at += m;
         to += n;
         left -= 1;
@@ -74,8 +76,8 @@ fn write(src: &[u8], plan: Plan, count: usize, up: bool, dst: &mut [u8])
 
 // A record in the target format: one answer of the point's reader, written by its writer into the rest of the destination. The record
 // is whole, so it is not refused, and the else is not reached.
-fn write_record(src: &[u8], plan: Plan, up: bool, dst: &mut [u8])
-    requires { ⌜ Sound up plan × (length (now src) ≡ plan .«source_length») × (plan .«target_length» ≤ length (now dst)) × Takes (plan .target) (turnedOf up (pointOf (plan .source) (now src))) ⌝ }
+fn write_record(src: &[u8], plan: Plan, up: bool, table: &[i16; 256], dst: &mut [u8])
+    requires { ⌜ Sound up plan × (length (now src) ≡ plan .«source_length») × (plan .«target_length» ≤ length (now dst)) × Takes (plan .target) (turnedOf up (pointOf (plan .source) (now src))) × (now table ≡ scaledTable) ⌝ }
     ensures { λ _. ⌜ now (dst .exit) ≡ imageOf up plan (now (src .entry)) ++ drop (plan .«target_length») (now (dst .entry)) ⌝ }
 {
     let source = plan.source;
@@ -84,16 +86,21 @@ fn write_record(src: &[u8], plan: Plan, up: bool, dst: &mut [u8])
         return;
     };
     point_write::write_to(
-        turned(point, up),
+        turned(point, up, table),
         point::extra_bytes(src, source),
         dst,
         target,
     );
 }
 
-// The point as it is, or upgraded.
-fn turned(point: Point, up: bool) -> Point
+// The point as it is, or upgraded, by the table of angles.
+fn turned(point: Point, up: bool, table: &[i16; 256]) -> Point
+    requires { ⌜ now table ≡ scaledTable ⌝ }
     ensures { λ r. ⌜ r ≡ turnedOf up point ⌝ }
 {
-    if up { strict::upgraded(point) } else { point }
+    if up {
+        let scan_angle = point.scan_angle;
+        return strict::upgraded_to(point, scan_angle.to_scaled_in(table));
+    }
+    point
 }

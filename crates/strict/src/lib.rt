@@ -3,7 +3,7 @@
 ghost use mathlib.Core.Path.{_≡_};
 ghost use Rattle.angle.specs.Angle.{nearestRank};
 ghost use Rattle.strict.specs.Fit.{firstOf, overlapGoes, readingsFit, flagsFitOf, nirFitOf, rankFits, scaledFitOf, angleFitOf, fieldsFit, fitOf};
-ghost use Rattle.strict.specs.Upgrade.{upgradedFlags, upgradedOld, upgradedOf};
+ghost use Rattle.strict.specs.Upgrade.{upgradedFlags, upgradedWith, upgradedOf, upgradedTo};
 use angle::ScanAngle;
 use flags::Flags;
 use le::signed;
@@ -53,9 +53,17 @@ pub fn check_fields(flags: Flags, nir: MaybeNir, scan_angle: ScanAngle) -> Fit
 pub fn upgraded(point: Point) -> Point
     ensures { λ r. ⌜ r ≡ upgradedOf point ⌝ }
 {
+    let scan_angle = point.scan_angle;
+    upgraded_to(point, scan_angle.to_scaled())
+}
+
+// The same for a caller that has the scaled angle, as a loop that lends the table of angles.
+pub fn upgraded_to(point: Point, scaled: i16) -> Point
+    ensures { λ r. ⌜ r ≡ upgradedTo point scaled ⌝ }
+{
     let flags = point.flags;
     match flags {
-        Flags::TwoByte(a, b) => upgraded_old(point, a, b),
+        Flags::TwoByte(a, b) => upgraded_old(point, a, b, scaled),
         Flags::ThreeByte(_, _, _) => point,
     }
 }
@@ -168,12 +176,11 @@ fn scaled_fits(n: i16) -> bool
     n >= LOWEST_SCALED && n <= HIGHEST_SCALED
 }
 
-// A point with these two bytes of flags made new.
-fn upgraded_old(point: Point, a: u8, b: u8) -> Point
-    ensures { λ r. ⌜ r ≡ upgradedOld point a b ⌝ }
+// A point with these two bytes of flags made new, with this scaled angle.
+fn upgraded_old(point: Point, a: u8, b: u8, scaled: i16) -> Point
+    ensures { λ r. ⌜ r ≡ upgradedWith point a b scaled ⌝ }
 {
     let flags = moved_flags(a, b);
-    let scan_angle = point.scan_angle;
     let gps_time = point.gps_time;
     let color = point.color;
     let waveform = point.waveform;
@@ -183,7 +190,7 @@ fn upgraded_old(point: Point, a: u8, b: u8) -> Point
         z: point.z,
         intensity: point.intensity,
         flags,
-        scan_angle: ScanAngle::Scaled(scan_angle.to_scaled()),
+        scan_angle: ScanAngle::Scaled(scaled),
         user_data: point.user_data,
         point_source_id: point.point_source_id,
         gps_time,

@@ -1,20 +1,17 @@
-use mathlib.Core.Path.{_∙_}
 use borrow.Author.Needs.{needs}
 use mir.Syntax.{w16, w32}
 use Rattle.angle.specs.declared.ScanAngle.the-variants.{Scaled}
 use Rattle.point.specs.declared.MaybeNir.the-variants.{None}
 use Rattle.le.proofs.Twos.{kept}
-use Rattle.strict.specs.Upgrade.{upgradedOld}
 use Rattle.strict.proofs.upgraded_old.Statement.{statement}
 use Rattle.strict.proofs.upgraded_old.Tie as tie
 
 -- each field is read back from its bits, or is what a call answered
 returns : tie.Need-returns
-unfolding upgradedOld
 returns c =
-    let t = c .before in
-    let f = t .before in
-    let p = f .before .args .point in
+    let f = c .before in
+    let s = f .before in
+    let p = s .args .point in
     let known = c .struct-told .given in
     λ i. record {
       x = kept w32 (p .x) (known .0 .1) i;
@@ -22,7 +19,7 @@ returns c =
       z = kept w32 (p .z) (known .1 .1 .0 .1) i;
       intensity = p .intensity;
       flags = f .moved-flags .ensures i;
-      «scan_angle» = Scaled ((kept w16 _ (t .to-scaled .ok) ∙ t .to-scaled .ensures) i);
+      «scan_angle» = Scaled (kept w16 (s .args .scaled) (s .fits .scaled .sfits) i);
       «user_data» = p .«user_data»;
       «point_source_id» = p .«point_source_id»;
       «gps_time» = p .«gps_time»;
@@ -32,4 +29,4 @@ returns c =
     }
 
 pub upgraded-old-spec : {M : Type 1} → statement M
-upgraded-old-spec = tie.close (tie.spec (λ c κs. search needs) (λ c κs. search needs) returns)
+upgraded-old-spec = tie.close (tie.spec (λ c κs. search needs) returns)
