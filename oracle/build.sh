@@ -29,6 +29,9 @@ build_with_las() {
     folder=$(cd "$1" && pwd)
     cd "$(dirname "${BASH_SOURCE[0]}")/.."
     sums=$PWD/oracle/published.sha256
+    . rust/needs.sh
+    . tools/x86_64.sh
+    for_x86_64
     rm -rf "$build" "$program/Cargo.lock"
     mkdir -p "$build/las" "$build/cargo"
 
@@ -68,7 +71,7 @@ END
         cargo build --release --quiet --offline --manifest-path "$program/Cargo.toml"
 
     # What was compiled is every published file but copc.rs, which is for compressed points, and every stub; nothing else.
-    compiled=$(grep -o "$build/las/[^ ]*" "$build/build/release/$program.d" | sed "s|^$build/las/||" | LC_ALL=C sort)
+    compiled=$(grep -o "$build/las/[^ ]*" "$build/build/$release/$program.d" | sed "s|^$build/las/||" | LC_ALL=C sort)
     published=$(sed 's|^[^ ]*  ||' "$sums" | grep -vx src/copc.rs)
     stubs=$(cd oracle/stubs && find src -type f)
     [ "$compiled" = "$(LC_ALL=C sort <<<"$published"$'\n'"$stubs")" ] || fail "las was built from other files: $compiled"

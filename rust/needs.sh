@@ -1,9 +1,14 @@
 # Sourced by demo and rust/run: installs Debian's packages of what is missing.
 
+# as_root COMMAND..: as whoever may change the machine.
+as_root() {
+    if [ "$(id -u)" = 0 ]; then "$@"; else sudo "$@"; fi
+}
+
 # needs WHAT..: each is COMMAND=PACKAGE, or a package of its own where it has no command. Somebody who sits at the terminal is
 # asked first.
 needs() {
-    local what answer missing=() apt=(env DEBIAN_FRONTEND=noninteractive apt-get)
+    local what answer missing=() apt=(as_root env DEBIAN_FRONTEND=noninteractive apt-get)
     for what in "$@"; do
         case $what in
             *=*) command -v "${what%%=*}" >/dev/null || missing+=("${what#*=}") ;;
@@ -22,7 +27,6 @@ needs() {
         esac
     fi
     echo "installing ${missing[*]}"
-    [ "$(id -u)" = 0 ] || apt=(sudo "${apt[@]}")
     "${apt[@]}" update -qq && "${apt[@]}" install -y -qq --no-install-recommends "${missing[@]}" >/dev/null || {
         echo "these Debian packages are needed and could not be installed: ${missing[*]}" >&2
         return 1
