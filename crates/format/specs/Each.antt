@@ -5,7 +5,7 @@ use mathlib.Core.Bool.{Bool, true, false, cond}
 use mathlib.Core.List.{List, [], _∷_, _++_}
 use native.Mathlib.Omega.{arith}
 use Rattle.fields.specs.Table.{All, none, _&_}
-use Rattle.fields.specs.Total.{each-within}
+use Rattle.fields.specs.Laws.{within}
 use Rattle.format.specs.declared.Format.{Format}
 use Rattle.format.specs.declared.Field.{Field}
 use Rattle.format.specs.declared.Field.the-variants.{X, Y, Z, Intensity, Flags, UserData, ScanAngle, PointSourceId, GpsTime, Color, Nir, Waveform, ExtraBytes}
@@ -80,4 +80,4 @@ pub field-within : (f : Format) (x : Field) → hasOf f x ≡ true → placeOf f
 unfolding recordBytes
 field-within f =
     field-of f (λ x. placeOf f x + sizeOf f x ≤ recordBytes f)
-    (each-within (sizeOf f) (placeOf f) (fieldsOf f) 0 (recordBytes f) (fields-follow f) (omega arith))
+    (within (sizeOf f) (placeOf f) (fieldsOf f) 0 (recordBytes f) (fields-follow f) (omega arith))

@@ -11,10 +11,11 @@ use Rattle.fields.specs.Total.{total-append}
 use Rattle.format.specs.declared.Format.{Format}
 use Rattle.format.specs.declared.Field.{Field}
 use Rattle.format.specs.declared.Field.the-variants.{UserData, ScanAngle, PointSourceId, GpsTime, Color, Nir, Waveform, ExtraBytes}
+use Rattle.format.specs.declared.FormatLen.the-variants.{Is}
 use Rattle.format.specs.declared.NewFormat.the-variants as new
 use Rattle.format.specs.Codes.{coded, formatOf}
 pub use Rattle.format.specs.Length.{len-is}
-use Rattle.format.specs.Fields.{only, restOf, fieldsOf, sizeOf, placeOf, recordBytes}
+use Rattle.format.specs.Fields.{only, restOf, fieldsOf, sizeOf, placeOf, recordBytes, lenOf}
 
 -- a code of the standard has a format
 pub code-known : (n : ℕ) → n < 11 → formatOf n ≡ new.Is (coded n false)
@@ -50,6 +51,10 @@ module _ (f : Format) where
   pub record-sum : recordBytes f ≡ 20 + cond (f .«is_extended») 2 0 + cond (f .«has_gps_time») 8 0 + cond (f .«has_color») 6 0 + cond (f .«has_nir») 2 0 + cond (f .«has_waveform») 29 0 + f .«extra_bytes»
   unfolding recordBytes fieldsOf
   record-sum = simp (total-append, total-only) (omega (arith, middle (f .«is_extended») refl))
+
+  -- so a record has bytes
+  pub some-bytes : (n : ℕ) → lenOf f ≡ Is n → 0 < n
+  some-bytes n e = omega (arith, len-is f n e, record-sum)
 
   -- a field that may be missing stands at its place where it is there
   abbrev Follows : ℕ → List Field → Type 0

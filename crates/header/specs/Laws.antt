@@ -1,7 +1,7 @@
 -- Laws of rule 1: what the answer says of the bytes, and what gives that answer.
 use Prim.Native.Nat.{ℕ, _+_, _*_, _≤_, _<_}
 use mathlib.Core.Path.{_≡_, refl, sym, ap, subst, _∙_}
-use mathlib.Core.Bool.{Bool, true, false, cond, _&&_}
+use mathlib.Core.Bool.{Bool, true, false, cond, _&&_, and-eq-true-iff}
 use mathlib.Core.List.{List, [], _∷_}
 use native.Mathlib.Omega.{arith}
 use borrow.Author.Tests.{le-ltb, lt-ltb, eq-eqb, eqb-true, ltb-true, ltb-false}
@@ -30,18 +30,13 @@ unfolding eqList
 eqList-refl [] = refl
 eqList-refl (x ∷ xs) = rw (is-true (eqb x x) (eqb-refl x)) (eqList-refl xs)
 
-both : (a b : Bool) → a && b ≡ true → (a ≡ true) × (b ≡ true)
-both true true e = (refl, refl)
-both true false e = absurd (subst T (sym e) tt)
-both false b e = absurd (subst T (sym e) tt)
-
 pub eqList-true : (l m : List ℕ) → eqList l m ≡ true → l ≡ m
 unfolding eqList
 eqList-true [] [] e = refl
 eqList-true [] (y ∷ ys) e = absurd (subst T (sym e) tt)
 eqList-true (x ∷ xs) [] e = absurd (subst T (sym e) tt)
 eqList-true (x ∷ xs) (y ∷ ys) e =
-    let p = both (eqb x y) (eqList xs ys) e in
+    let p = and-eq-true-iff _ _ .0 e in
     λ i. eqb-true x y (p .0) i ∷ eqList-true xs ys (p .1) i
 
 -- rule 1 for bytes whose block ends at n and whose padding ends at e

@@ -1,5 +1,5 @@
 -- What a plan that is made is: sound.
-use Prim.Native.Nat.{ℕ, _<_}
+use Prim.Native.Nat.{ℕ}
 use mathlib.Core.Path.{_≡_, refl, ap, sym}
 use mathlib.Core.Bool.{Bool, true, false, cond}
 use native.Mathlib.Omega.{arith}
@@ -8,7 +8,6 @@ use Rattle.format.specs.declared.Format.{Format}
 use Rattle.format.specs.declared.FormatLen.{FormatLen}
 use Rattle.format.specs.declared.FormatLen.the-variants as len
 use Rattle.format.specs.Fields.{lenOf}
-use Rattle.format.specs.Laws.{record-sum, len-is}
 use Rattle.pairs.specs.declared.Pair.{Pair}
 use Rattle.pairs.specs.declared.Pair.the-variants.{Formats, None}
 use Rattle.pairs.specs.declared.Plan.{Plan}
@@ -71,7 +70,3 @@ old-planned format extra = planned-sound false format (oldPair format extra) (ol
 
 pub new-planned : (format extra : ℕ) → PlannedSound true (plannedBy format (newPair format extra))
 new-planned format extra = planned-sound true format (newPair format extra) (new-sound format extra)
-
--- a record has bytes
-pub some-bytes : (f : Format) (n : ℕ) → lenOf f ≡ len.Is n → 0 < n
-some-bytes f n e = omega (arith, len-is f n e, record-sum f)

@@ -3,7 +3,7 @@ use Prim.Native.Nat.{ℕ, zero, suc, _+_, _-_, _*_, _/_, _≤_, _<_, min, max}
 use mathlib.Core.Path.{_≡_, refl, sym, ap, _∙_}
 use mathlib.Core.Bool.{Bool, true, false, cond}
 use mathlib.Core.List.{List, [], _∷_}
-use mathlib.Core.Logic.{_↔_}
+use mathlib.Core.Logic.{_↔_, inl}
 use native.Mathlib.Nat.{min-le-left}
 use native.Mathlib.Omega.{arith}
 use borrow.Author.Tests.{ltb-true, ltb-false, eqb-true}
@@ -14,11 +14,10 @@ use Rattle.le.specs.Le.{bytes, Bytes}
 use Rattle.le.specs.Laws.{bytes-take, bytes-drop}
 use Rattle.le.specs.Made.{none-made, one-made, both-made, number-made}
 use Rattle.fields.specs.Table.{joined, All, none, _&_}
-use Rattle.store.specs.Parts.{drop-sets}
+use Rattle.store.specs.Parts.{drop-sets, part-sets}
 use Rattle.offer.specs.declared.Sweep.{Sweep}
 use Rattle.sectors.specs.declared.Stored.{Stored}
 use Rattle.sectors.specs.Sectors.{pointStores, storesOf, sectorOf, withRecords, byReturnOf, withHeader, stepOf, storedOf, afterStores}
-use Rattle.sectors.specs.Runs.{take-before}
 use Rattle.sectors.specs.Laws.{OneSector, touched, after-length, after-next, whole-sector, point-store, header-store}
 
 pub stores-are : (w : Sweep) → storesOf w ≡ pointStores w + 1
@@ -83,7 +82,7 @@ module _ (w : Sweep) (records bounds : List ℕ) where
       let v = take (to - from) (drop (from - w .at) records) in
       let short : length v ≤ to - from = rw length-take (min-le-left _ _) in
       stored-holds (Elsewhere (w .at) (w .bytes) s) k s nowhere
-      (λ point. record { long = length-sets s from v; front = take-before (w .at) s v from (omega arith); rest = drop-sets (w .at + w .bytes) v s from (omega (arith, touched w k h)) })
+      (λ point. record { long = length-sets s from v; front = part-sets (w .at) 0 v s from (inl (omega arith)); rest = drop-sets (w .at + w .bytes) v s from (omega (arith, touched w k h)) })
       (λ last. absurd (omega arith))
 
   pub some-elsewhere : (ks s : List ℕ) → All (λ (k : ℕ). k < pointStores w) ks → Elsewhere (w .at) (w .bytes) s (someStores w records bounds ks s)

@@ -3,6 +3,7 @@ use Prim.Native.Nat.{ℕ, zero, suc, _+_, _*_, _-_, _/_, _≤_, _<_, min, max}
 use mathlib.Core.Path.{_≡_, refl, ap, sym, _∙_}
 use mathlib.Core.Bool.{Bool, true, false, cond}
 use mathlib.Core.List.{List}
+use mathlib.Core.Logic.{inl}
 use native.Mathlib.Nat.{le-refl, min-le-left, add-zero, add-suc, add-sub-cancel-left}
 use native.Mathlib.Numerals.{add-one}
 use native.Mathlib.Omega.{arith}
@@ -13,13 +14,12 @@ use lib.Seq.{sets, length-sets, length-take-le}
 use Rattle.refusal.specs.declared.Refusal.{Refusal}
 use Rattle.refusal.specs.declared.Refusal.the-variants.{Short, NoRoom}
 use Rattle.refusal.specs.Table.{wantedOf}
-use Rattle.store.specs.Parts.{drop-sets}
+use Rattle.store.specs.Parts.{drop-sets, part-sets, drop-past, sets-take, sets-same}
 use Rattle.offer.specs.declared.Sweep.{Sweep}
 use Rattle.sectors.specs.declared.Stored.{Stored}
 use Rattle.sectors.specs.declared.Stored.the-variants.{Sector, Done, Refused}
 use Rattle.sectors.specs.Sectors.{pointStores, storesOf, sectorOf, withRecords, withHeader, stepOf, storedOf, afterStores}
 use Rattle.sectors.specs.Header.{length-header, drop-header}
-use Rattle.sectors.specs.Runs.{take-before, drop-past, sets-take, sets-same}
 
 -- the file t is s but for the sector of this number, which the file's end may cut
 abbrev pub OneSector : ℕ → List ℕ → List ℕ → Type 0
@@ -129,7 +129,7 @@ module _ (w : Sweep) (records bounds : List ℕ) where
       let to : ℕ = min (w .at + w .bytes) (512 * number + 512) in
       let v : List ℕ = take (to - from) (drop (from - w .at) records) in
       let long : length v ≤ to - from = rw length-take (min-le-left _ _) in
-      in-sector number s (sets s from v) (length-sets s from v) (take-before (512 * number) s v from (omega arith)) (drop-sets (512 * number + 512) v s from (omega arith))
+      in-sector number s (sets s from v) (length-sets s from v) (part-sets (512 * number) 0 v s from (inl (omega arith))) (drop-sets (512 * number + 512) v s from (omega arith))
 
   module _ (six : length bounds ≡ 6) where
     -- and what the last one changes in sector 0

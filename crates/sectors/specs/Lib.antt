@@ -2,6 +2,5 @@
 pub mod Sectors
 -- laws
 pub mod Header
-pub mod Runs
 pub mod Laws
 pub mod After

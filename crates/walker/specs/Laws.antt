@@ -1,7 +1,7 @@
 -- What a step is to the point reader: it gives what the reader answers on the next record, and where there is none the reader refuses.
 use Prim.Native.Nat.{ℕ, _+_, _≤_, _<_}
 use mathlib.Core.Path.{_≡_, refl, ap, sym, _∙_}
-use mathlib.Core.Bool.{Bool, true, false, cond, _&&_}
+use mathlib.Core.Bool.{Bool, true, false, cond, and-eq-true-iff}
 use mathlib.Core.List.{List, []}
 use native.Mathlib.Omega.{arith}
 use borrow.Author.Tests.{leb-true, ltb-true}
@@ -20,10 +20,6 @@ use Rattle.walker.specs.declared.Place.{Place}
 use Rattle.walker.specs.declared.Walked.the-variants.{Point}
 use Rattle.walker.specs.declared.Took.{Took}
 use Rattle.walker.specs.Walk.{accepted, hasNext, recordOf, refusalOf, after, tookOf}
-
-both : (a b : Bool) → a && b ≡ true → (a ≡ true) × (b ≡ true)
-both true b e = (refl, e)
-both false b e = let z : _≡_ {A = ℕ} 0 1 = cc in absurd (omega arith)
 
 module _ (s : List ℕ) (p : Place) where
   -- what there being a next record says
@@ -45,9 +41,9 @@ module _ (s : List ℕ) (p : Place) where
   pub next-says : hasNext s p ≡ true → Next
   unfolding hasNext
   next-says e =
-      let a = both (accepted (p .start)) _ e in
-      let b = both (leb (recordBytes (p .format)) 65535) _ (a .1) in
-      let c = both (ltb 0 (p .left)) _ (b .1) in
+      let a = and-eq-true-iff (accepted (p .start)) _ .0 e in
+      let b = and-eq-true-iff _ _ .0 (a .1) in
+      let c = and-eq-true-iff _ _ .0 (b .1) in
       let r : p .at + recordBytes (p .format) ≤ length s = leb-true _ _ (c .1) in
       let l = next-bytes e in
       record {

@@ -4,8 +4,8 @@ use borrow.Author.Needs.{needs}
 use borrow.Author.Tests.{le-ltb, lt-ltb}
 use lib.ListN.{length}
 use Rattle.refusal.specs.Laws.{div-le, div-lt}
+use Rattle.format.specs.Laws.{some-bytes}
 use Rattle.judge.specs.Judge.{judgedOf}
-use Rattle.pairs.specs.Sound.{some-bytes}
 use Rattle.judge.proofs.judge.Statement.{statement}
 use Rattle.judge.proofs.judge.Tie as tie
 

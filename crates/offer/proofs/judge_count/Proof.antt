@@ -1,4 +1,4 @@
-use Prim.Native.Nat.{ℕ, _+_, _*_, _≤_}
+use Prim.Native.Nat.{ℕ, _+_, _*_, _≤_, _<_}
 use mathlib.Core.Path.{_≡_, ap, sym, subst, _∙_}
 use native.Mathlib.Nat.{add-mul, mul-le-mul-left}
 use native.Mathlib.Omega.{arith}
@@ -8,7 +8,7 @@ use lib.ListN.{length}
 use Rattle.format.specs.declared.FormatLen.the-variants as len
 use Rattle.format.specs.Fields.{lenOf}
 use Rattle.format.specs.Length.{len-is, len-le}
-use Rattle.format.specs.Laws.{record-sum}
+use Rattle.format.specs.Laws.{some-bytes}
 use Rattle.outline.specs.declared.Outline.{Outline}
 use Rattle.outline.specs.Outline.{outlineOf}
 use Rattle.extents.specs.Extents.{pointsEnd}
@@ -19,7 +19,7 @@ use Rattle.offer.specs.Steps.{Small, standLast, totalOf, sweepBy, sweep-
 use Rattle.offer.proofs.judge_count.Statement.{statement}
 use Rattle.offer.proofs.judge_count.Tie as tie
 
--- the outline is the header's; its records are there, in the file and offered, and have 20 to 65,535 bytes
+-- the outline is the header's; its records are there, in the file and offered, and have 1 to 65,535 bytes
 module _ (x : tie.After-of) where
   abbrev begun : tie.Start
   begun = x .before .before .before
@@ -42,14 +42,14 @@ module _ (x : tie.After-of) where
   long : lenOf (pointFormat o) ≡ len.Is each
   long = subst (λ (u : Outline). lenOf (pointFormat u) ≡ len.Is (u .«point_data_record_length»)) (sym is) (begun .pre .ready .long)
 
-  some : 20 ≤ each
-  some = omega (arith, record-sum (pointFormat o), len-is (pointFormat o) each long)
+  some : 0 < each
+  some = some-bytes (pointFormat o) each long
 
   most : each ≤ 65535
   most = omega (arith, len-is (pointFormat o) each long, len-le (pointFormat o) each long)
 
   -- so neither count is large
-  few : (20 * o .«number_of_point_records» ≤ length (begun .args .file .now)) × (20 * begun .args .n ≤ length (begun .args .records .now))
+  few : (o .«number_of_point_records» ≤ length (begun .args .file .now)) × (begun .args .n ≤ length (begun .args .records .now))
   few = (omega (arith, within, mul-le-mul-left (o .«number_of_point_records») some), omega (arith, there, mul-le-mul-left (begun .args .n) some))
 
   small : Small (begun .args .new)

@@ -9,7 +9,7 @@ use Rattle.refusal.specs.Laws.{div-le, div-lt}
 use Rattle.format.specs.declared.FormatLen.{FormatLen}
 use Rattle.format.specs.declared.FormatLen.the-variants as len
 use Rattle.format.specs.Fields.{lenOf}
-use Rattle.format.specs.Laws.{record-sum, len-is}
+use Rattle.format.specs.Laws.{some-bytes}
 use Rattle.tally.specs.Tally.{tallyBy, tallyOf}
 use Rattle.tally.specs.Laws.{tally-told}
 use Rattle.tally.proofs.count.Statement.{statement}
@@ -24,7 +24,7 @@ module _ (x : tie.After-each) where
   long = sym (x .before .before .len .ensures) ∙ x .each .given .1
 
   some : 0 < x .each .given .0 .0
-  some = omega (arith, record-sum (begun .args .format), len-is (begun .args .format) (x .each .given .0 .0) long)
+  some = some-bytes (begun .args .format) _ long
 
 -- n records are there
 there : (c : tie.Else1) → begun (c .before .before) .args .n * c .before .before .each .given .0 .0 ≤ length (begun (c .before .before) .args .records .now)
