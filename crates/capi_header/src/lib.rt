@@ -10,16 +10,12 @@
 //   guid (16 bytes), system identifier (32), generating software (32)
 // A number of a part that is missing is 0. Rows are those of the crate words; crate `capi_header_write` is the way back.
 ghost use mathlib.Core.Path.{_≡_};
-ghost use mathlib.Core.Bool.{cond};
-ghost use Rattle.header.specs.Header.{noLarge, defaultHeader, endOfPoints};
+ghost use Rattle.header.specs.Header.{defaultHeader, endOfPoints};
 ghost use Rattle.header.specs.Judged.{standardOf, readOf};
-ghost use Rattle.header_write.specs.Bytes.{startBack, evlrBack};
 ghost use Rattle.capi_header.specs.Numbers.{hasStart, hasEvlr, hasLarge, bits, numbersOf, lentOf, readRow, blockOf, paddingPart, pointsRow, endBy, endRow, sizeRow};
 use header::EndOfPoints;
-use header::Evlr;
 use header::Header;
 use header::HeaderAnswer;
-use header::LargeFile;
 use header::OptionEvlr;
 use header::OptionU64;
 use header::StandardSize;
@@ -157,9 +153,9 @@ fn numbers_of(h: Header) -> [u64; 51]
     let nans = h.nans;
     let start = h.start_of_waveform_data_packet_record;
     let maybe_evlr = h.evlr;
-    let evlr = evlr_or(maybe_evlr);
+    let evlr = header_write::evlr_back(maybe_evlr);
     let maybe_large = h.large_file;
-    let large = large_or(h.has_large_file, maybe_large);
+    let large = header_write::large_back(h.has_large_file, maybe_large);
     let large_by_return = large.number_of_points_by_return;
     [
         wide16(h.file_source_id),
@@ -192,7 +188,7 @@ fn numbers_of(h: Header) -> [u64; 51]
         float_bits(h.max_z, nans.max_z),
         float_bits(h.min_z, nans.min_z),
         has_start(start),
-        start_or(start),
+        header_write::start_back(start),
         has_evlr(maybe_evlr),
         evlr.start_of_first_evlr,
         wide32(evlr.number_of_evlrs),
@@ -243,22 +239,13 @@ fn wide32(n: u32) -> u64
     n as u64
 }
 
-// What may be missing, going out: whether it is there, and what stands for it where it isn't, zeros.
+// Whether what may be missing is there. Where it isn't zeros stand for it, as the header's writer has them.
 
 fn has_start(start: OptionU64) -> u64
     ensures { λ r. ⌜ r ≡ hasStart start ⌝ }
 {
     match start {
         OptionU64::Some(_) => 1,
-        OptionU64::None => 0,
-    }
-}
-
-fn start_or(start: OptionU64) -> u64
-    ensures { λ r. ⌜ r ≡ startBack start ⌝ }
-{
-    match start {
-        OptionU64::Some(n) => n,
         OptionU64::None => 0,
     }
 }
@@ -272,32 +259,8 @@ fn has_evlr(evlr: OptionEvlr) -> u64
     }
 }
 
-fn evlr_or(evlr: OptionEvlr) -> Evlr
-    ensures { λ r. ⌜ r ≡ evlrBack evlr ⌝ }
-{
-    match evlr {
-        OptionEvlr::Some(pair) => pair,
-        OptionEvlr::None => Evlr {
-            start_of_first_evlr: 0,
-            number_of_evlrs: 0,
-        },
-    }
-}
-
 fn has_large(has: bool) -> u64
     ensures { λ r. ⌜ r ≡ hasLarge has ⌝ }
 {
     if has { 1 } else { 0 }
-}
-
-fn large_or(has: bool, large: LargeFile) -> LargeFile
-    ensures { λ r. ⌜ r ≡ cond has large noLarge ⌝ }
-{
-    if has {
-        return large;
-    }
-    LargeFile {
-        number_of_point_records: 0,
-        number_of_points_by_return: [0; 15],
-    }
 }

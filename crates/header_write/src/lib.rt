@@ -135,8 +135,8 @@ fn write_large(h: Header, dst: &mut [u8])
     set_large_by_return(dst, by_return);
 }
 
-// No waveform start is written as 0.
-fn start_back(start: OptionU64) -> u64
+// What may be missing, as it is written: no waveform start as 0.
+pub fn start_back(start: OptionU64) -> u64
     ensures { λ r. ⌜ r ≡ startBack start ⌝ }
 {
     match start {
@@ -145,8 +145,8 @@ fn start_back(start: OptionU64) -> u64
     }
 }
 
-// No EVLRs are written as two zeros.
-fn evlr_back(evlr: OptionEvlr) -> Evlr
+// No EVLRs as two zeros.
+pub fn evlr_back(evlr: OptionEvlr) -> Evlr
     ensures { λ r. ⌜ r ≡ evlrBack evlr ⌝ }
 {
     match evlr {
@@ -158,8 +158,8 @@ fn evlr_back(evlr: OptionEvlr) -> Evlr
     }
 }
 
-// A missing large file is written as zeros.
-fn large_back(has_large_file: bool, large_file: LargeFile) -> LargeFile
+// No large file as zeros.
+pub fn large_back(has_large_file: bool, large_file: LargeFile) -> LargeFile
     ensures { λ r. ⌜ r ≡ cond «has_large_file» «large_file» noLarge ⌝ }
 {
     if has_large_file {

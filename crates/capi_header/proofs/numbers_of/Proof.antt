@@ -51,8 +51,8 @@ returns c =
     let c39 = c38 .before in
     let c40 = c39 .before in
     let h = c40 .args .h in
-    let evlr = c37 .evlr-or .result in
-    let large = c35 .large-or .result in
+    let evlr = c37 .evlr-back .result in
+    let large = c35 .large-back .result in
     -- first each call's number, then the EVLR pair and the large file that two of the calls gave
     _∙_ {b = listed h (floatsOf h) (hasStart (h .«start_of_waveform_data_packet_record»)) (startBack (h .«start_of_waveform_data_packet_record»)) (hasEvlr (h .evlr)) evlr (hasLarge (h .«has_large_file»)) large}
     (λ i.
@@ -64,9 +64,9 @@ returns c =
     c16 .float-bits .ensures i ∷ c15 .float-bits2 .ensures i ∷ c14 .float-bits3 .ensures i ∷ c13 .float-bits4 .ensures i ∷
     c12 .float-bits5 .ensures i ∷ c11 .float-bits6 .ensures i ∷ c10 .float-bits7 .ensures i ∷ c9 .float-bits8 .ensures i ∷
     c8 .float-bits9 .ensures i ∷ c7 .float-bits10 .ensures i ∷ c6 .float-bits11 .ensures i ∷ c5 .float-bits12 .ensures i ∷
-    c4 .has-start .ensures i ∷ c3 .start-or .ensures i ∷ c2 .has-evlr .ensures i ∷ evlr .«start_of_first_evlr» ∷
+    c4 .has-start .ensures i ∷ c3 .start-back .ensures i ∷ c2 .has-evlr .ensures i ∷ evlr .«start_of_first_evlr» ∷
     c1 .wide329 .ensures i ∷ c .has-large .ensures i ∷ large .«number_of_point_records» ∷ from (large .«number_of_points_by_return») 0 15)
-    (λ i. listed h (floatsOf h) (hasStart (h .«start_of_waveform_data_packet_record»)) (startBack (h .«start_of_waveform_data_packet_record»)) (hasEvlr (h .evlr)) (c37 .evlr-or .ensures i) (hasLarge (h .«has_large_file»)) (c35 .large-or .ensures i))
+    (λ i. listed h (floatsOf h) (hasStart (h .«start_of_waveform_data_packet_record»)) (startBack (h .«start_of_waveform_data_packet_record»)) (hasEvlr (h .evlr)) (c37 .evlr-back .ensures i) (hasLarge (h .«has_large_file»)) (c35 .large-back .ensures i))
 
 pub numbers-of-spec : {M : Type 1} → statement M
 numbers-of-spec =
