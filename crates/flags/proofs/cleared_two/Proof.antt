@@ -4,14 +4,6 @@ use borrow.Author.Needs.{needs}
 use Rattle.flags.proofs.cleared_two.Statement.{statement}
 use Rattle.flags.proofs.cleared_two.Tie as tie
 
-returns : tie.Need-returns
-unfolding clearedOf
-returns c = search tests
-
-returns-2 : tie.Need-returns-2
-unfolding clearedOf
-returns-2 c = search tests
-
 pub cleared-two-spec : {M : Type 1} → statement M
-cleared-two-spec = tie.close (tie.spec
-    (λ c. search needs) (λ c. search needs) returns returns-2)
+unfolding clearedOf
+cleared-two-spec = tie.close (tie.spec (λ c. search needs) (λ c. search needs) (λ c. search tests) (λ c. search tests))

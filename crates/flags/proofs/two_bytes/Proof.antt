@@ -19,22 +19,6 @@ said a b class = Bytes (oldFirst (a % 16) (a / 16 % 16) (bit 6 b) (bit 7 b)) (ol
 made : (a b class : ℕ) → b < 256 → Bytes (b / 64 * 64 + a / 16 % 16 * 8 + a % 16) (b % 8 * 32 + class) ≡ said a b class
 made a b class h = λ i. Bytes (first-moved b (a / 16 % 16) (a % 16) h i) (second-moved b class i)
 
-returns : tie.Need-returns
-unfolding twoBytesOf
-returns c = search tests
-
-returns-2 : tie.Need-returns-2
-unfolding twoBytesOf
-returns-2 c = search tests
-
-returns-3 : tie.Need-returns-3
-unfolding twoBytesOf
-returns-3 c = search tests
-
-returns-4 : tie.Need-returns-4
-unfolding twoBytesOf
-returns-4 c = search tests
-
 returns-5 : tie.Need-returns-5
 unfolding twoBytesOf oldBytesOf
 returns-5 c =
@@ -50,8 +34,10 @@ returns-6 c =
     rw (← bytes) (made (a .a) (a .b) (a .c) (search needs))
 
 pub two-bytes-spec : {M : Type 1} → statement M
+unfolding twoBytesOf
 two-bytes-spec =
     tie.close
     (tie.spec
-    returns returns-2 returns-3 returns-4 (λ c. search needs) (λ c. search needs) (λ c. search needs) (λ c. search needs)
-    (λ c. search needs) (λ c. search needs) returns-5 (λ c. search needs) (λ c. search needs) returns-6)
+    (λ c. search tests) (λ c. search tests) (λ c. search tests) (λ c. search tests)
+    (λ c. search needs) (λ c. search needs) (λ c. search needs) (λ c. search needs) (λ c. search needs) (λ c. search needs) returns-5
+    (λ c. search needs) (λ c. search needs) returns-6)

@@ -5,29 +5,13 @@ use Rattle.pairs.specs.Pairs.{oldPair}
 use Rattle.pairs.proofs.old_pair.Statement.{statement}
 use Rattle.pairs.proofs.old_pair.Tie as tie
 
-returns : tie.Need-returns
-unfolding oldPair
-returns c = c .formats .ensures ∙ search tests
-
-returns-2 : tie.Need-returns-2
-unfolding oldPair
-returns-2 c = c .formats2 .ensures ∙ search tests
-
-returns-3 : tie.Need-returns-3
-unfolding oldPair
-returns-3 c = c .formats3 .ensures ∙ search tests
-
-returns-4 : tie.Need-returns-4
-unfolding oldPair
-returns-4 c = c .formats4 .ensures ∙ search tests
-
-returns-5 : tie.Need-returns-5
-unfolding oldPair
-returns-5 c = c .formats5 .ensures ∙ search tests
-
-returns-6 : tie.Need-returns-6
-unfolding oldPair
-returns-6 c = search tests
-
 pub old-pair-spec : {M : Type 1} → statement M
-old-pair-spec = tie.close (tie.spec (λ c κs. search needs) returns (λ c κs. search needs) returns-2 (λ c κs. search needs) returns-3 (λ c κs. search needs) returns-4 (λ c κs. search needs) returns-5 returns-6)
+unfolding oldPair
+old-pair-spec =
+    tie.close
+    (tie.spec
+    (λ c κs. search needs) (λ c. c .formats .ensures ∙ search tests)
+    (λ c κs. search needs) (λ c. c .formats2 .ensures ∙ search tests)
+    (λ c κs. search needs) (λ c. c .formats3 .ensures ∙ search tests)
+    (λ c κs. search needs) (λ c. c .formats4 .ensures ∙ search tests)
+    (λ c κs. search needs) (λ c. c .formats5 .ensures ∙ search tests) (λ c. search tests))

@@ -6,16 +6,11 @@ use borrow.Author.Needs.{needs}
 use Rattle.words.proofs.angle_of.Statement.{statement}
 use Rattle.words.proofs.angle_of.Tie as tie
 
-returns : tie.Need-returns
-unfolding angleOf
-returns c = rw (kept w16 _ (c .signed16 .ok), c .signed16 .ensures) (search tests)
-
-returns-2 : tie.Need-returns-2
-unfolding angleOf
-returns-2 c = rw (kept w8 _ (c .signed8 .ok), c .signed8 .ensures) (search tests)
-
 pub angle-of-spec : {M : Type 1} → statement M
+unfolding angleOf
 angle-of-spec =
     tie.close
     (tie.spec
-    (λ c. search needs) (λ c κs. search needs) returns (λ c. search needs) (λ c κs. search needs) returns-2)
+    (λ c. search needs) (λ c κs. search needs)
+    (λ c. rw (kept w16 _ (c .signed16 .ok), c .signed16 .ensures) (search tests)) (λ c. search needs)
+    (λ c κs. search needs) (λ c. rw (kept w8 _ (c .signed8 .ok), c .signed8 .ensures) (search tests)))
