@@ -117,7 +117,7 @@ impl ScanAngle {
 
     // The same by a table that is lent; that of `scaled_table` gives what `to_scaled` does.
     pub fn to_scaled_in(self, table: &[i16; 256]) -> i16
-        ensures { λ r. ⌜ (r ≡ toScaledIn (now (table .entry)) self) × (now (table .entry) ≡ scaledTable → r ≡ toScaled self) ⌝ }
+        ensures { λ r. ⌜ r ≡ toScaledIn (now (table .entry)) self ⌝ }
     {
         match self {
             ScanAngle::Rank(r) => entry(table, r),

@@ -4,7 +4,8 @@ ghost use mathlib.Core.Path.{_≡_};
 ghost use mathlib.Core.List.{_++_};
 ghost use Prim.Native.Nat.{_*_, _≤_};
 ghost use lib.ListN.{length, drop};
-ghost use Rattle.angle.specs.Table.{scaledTable};
+ghost use Rattle.angle.specs.Angle.{toScaled};
+ghost use Rattle.angle.specs.Table.{scaledTable, toScaledIn};
 ghost use Rattle.point.specs.Read.{pointOf};
 ghost use Rattle.pairs.specs.Sound.{Sound};
 ghost use Rattle.judge.specs.Laws.{Ready};
@@ -93,9 +94,9 @@ fn write_record(src: &[u8], plan: Plan, up: bool, table: &[i16; 256], dst: &mut 
     );
 }
 
-// The point as it is, or upgraded, by the table of angles.
+// The point as it is, or upgraded, by a table that has its angle.
 fn turned(point: Point, up: bool, table: &[i16; 256]) -> Point
-    requires { ⌜ now table ≡ scaledTable ⌝ }
+    requires { ⌜ toScaledIn (now table) (point .«scan_angle») ≡ toScaled (point .«scan_angle») ⌝ }
     ensures { λ r. ⌜ r ≡ turnedOf up point ⌝ }
 {
     if up {

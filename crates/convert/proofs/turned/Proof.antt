@@ -13,7 +13,7 @@ returns c =
     let t = c .before in
     let s = t .before in
     let p = s .before .args .point in
-    c .upgraded-to .ensures ∙ ap (upgradedTo p) (kept w16 _ (t .to-scaled-in .ok) ∙ t .to-scaled-in .ensures .1 (s .before .pre)) ∙ to-its-own p
+    c .upgraded-to .ensures ∙ ap (upgradedTo p) (kept w16 _ (t .to-scaled-in .ok) ∙ t .to-scaled-in .ensures ∙ s .before .pre) ∙ to-its-own p
     ∙ sym (ap (λ (up : Bool). turnedOf up p) (s .if1 .taken))
 
 returns-2 : tie.Need-returns-2

@@ -1,10 +1,17 @@
 use Prim.Native.Nat.{ℕ}
-use mathlib.Core.Path.{_≡_, sym, _∙_}
+use mathlib.Core.Path.{_≡_, refl, sym, _∙_}
+use mathlib.Core.Bool.{Bool, true, false}
 use native.Mathlib.Omega.{arith}
 use borrow.Author.Needs.{needs}
+use Rattle.angle.specs.declared.ScanAngle.{ScanAngle}
+use Rattle.angle.specs.declared.ScanAngle.the-variants.{Rank, Scaled}
+use Rattle.angle.specs.Angle.{toScaled}
+use Rattle.angle.specs.Table.{scaledTable, toScaledIn, table-rule}
 use Rattle.point.specs.declared.PointRead.the-variants.{Is}
 use Rattle.point.specs.Read.{pointOf}
-use Rattle.point.specs.Answer.{read-told}
+use Rattle.point.specs.Answer.{answered, read-told}
+use Rattle.point_write.specs.Held.{AngleHeld}
+use Rattle.point_write.specs.Theorems.{read-is-held}
 use Rattle.convert.specs.Laws.{image-laid}
 use Rattle.convert.proofs.write_record.Statement.{statement}
 use Rattle.convert.proofs.write_record.Tie as tie
@@ -14,6 +21,24 @@ read-is : (x : tie.After-read-from) → x .read-from .result ≡ Is (pointOf (x 
 read-is x =
     let s = x .before .before .before .before .before in
     x .read-from .ensures ∙ read-told (s .args .plan .source) (s .args .src .now) (s .args .plan .«source_length») (s .pre .0 .from) (omega (arith, s .pre .1))
+
+-- an angle that a record holds is in the table: its rank has eight bits
+in-table : (extended : Bool) (a : ScanAngle) → AngleHeld extended a → toScaledIn scaledTable a ≡ toScaled a
+in-table true (Scaled n) h = refl
+in-table false (Rank r) h = table-rule r h
+in-table true (Rank r) h = absurd h
+in-table false (Scaled n) h = absurd h
+
+turned-requires : tie.Need-turned-requires
+turned-requires c κs =
+    let x = c .before in
+    let read = x .before .before in
+    let known = read .before .before .before .before in
+    let s = known .before in
+    let f = s .args .plan .source in
+    let a = answered f (s .args .src .now) _ (sym (read .read-from .ensures) ∙ x .point .given .1) in
+    let held = read-is-held f (s .args .src .now) (λ k. omega (arith, known .shared-slice-known .given k)) (a .room) in
+    rw (s .pre .4, a .point) (in-table (f .«is_extended») (pointOf f (s .args .src .now) .«scan_angle») (held .«scan_angle»))
 
 returns : tie.Need-returns
 returns c =
@@ -37,5 +62,5 @@ pub write-record-spec : {M : Type 1} → statement M
 write-record-spec =
     tie.close
     (tie.spec
-    (λ c κs. search needs) (λ c. search needs) (λ c. search needs) returns (λ c κs. search needs) (λ c κs. search needs)
+    (λ c κs. search needs) (λ c. search needs) (λ c. search needs) returns turned-requires (λ c κs. search needs)
     (λ c κs. search needs) (λ c. search needs) returns-2)
