@@ -26,7 +26,7 @@ pub(crate) const COMMAND: Command = Command {
         Opt {
             name: "bounds",
             value: Some("LIST"),
-            help: "the header's new bounds: max x, min x, max y, min y, max z, min z, with commas between",
+            help: "the header's new bounds in its order, with commas between: max x, min x, max y, min y, max z, min z",
         },
         Opt {
             name: "room",
@@ -37,7 +37,7 @@ pub(crate) const COMMAND: Command = Command {
     help: "\
 FILE is of LAS 1.2. RECORDS has point records as FILE has them, one after the other and nothing else; - is the standard
 input. They become the last points of FILE: the header's counts and bounds change, and what was behind the points is
-written over. The bounds are FILE's, widened to the new points, unless --bounds says otherwise.
+written over. The bounds are FILE's, widened to the new points, unless --bounds gives others, each max before its min.
 
 Whatever cuts this short, a brownout, kill -9 or a full disk, FILE stays a whole LAS file, with the points that it had
 or with all of the new ones too. The same command, given again, ends as if nothing had been: it says 'added', or
@@ -145,14 +145,29 @@ fn bounds(given: &OsStr) -> Result<Bounds, Failure> {
     let text = given.to_string_lossy();
     let numbers: Result<Vec<f64>, _> = text.split(',').map(|word| word.trim().parse()).collect();
     match numbers.as_deref() {
-        Ok(&[max_x, min_x, max_y, min_y, max_z, min_z]) => Ok(Bounds {
+        Ok(&[max_x, min_x, max_y, min_y, max_z, min_z]) => in_order(Bounds {
             min: [min_x, min_y, min_z],
             max: [max_x, max_y, max_z],
         }),
         _ => Err(wrong(&format!(
-            "--bounds needs six numbers with commas between (max x, min x, max y, min y, max z, min z), and '{text}' is none such"
+            "--bounds needs six numbers with commas between ({ORDER}), and '{text}' is none such"
         ))),
     }
+}
+
+/// The order of the header's bounds.
+const ORDER: &str = "max x, min x, max y, min y, max z, min z";
+
+/// Bounds of which no max is below its min: who gives the min first is told so. Infinities and NaNs are taken as they are.
+fn in_order(bounds: Bounds) -> Result<Bounds, Failure> {
+    for ((max, min), axis) in bounds.max.iter().zip(&bounds.min).zip(["x", "y", "z"]) {
+        if max < min && max.is_finite() && min.is_finite() {
+            return Err(wrong(&format!(
+                "--bounds has each max before its min ({ORDER}), and max {axis} {max} is below min {axis} {min}"
+            )));
+        }
+    }
+    Ok(bounds)
 }
 
 /// Opens FILE and locks it.

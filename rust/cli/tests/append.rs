@@ -139,17 +139,27 @@ fn bounds_as_they_are_given() {
     let file = folder.put("file.las", &plain(3));
     let from = folder.put("records", &sweep(0..2));
     let from = from.to_str().unwrap();
-    let given = ["--bounds", "-1.5, 2,3e3,4,nan,-inf", "--believed", "3"];
+    let given = ["--bounds", "2, -1.5,3e3,3e3,nan,-inf", "--believed", "3"];
     let (_, err, status) = append(&file, &[&[from], &given[..]].concat());
     assert_eq!((err.as_str(), status), ("", Some(0)));
     let bytes = fs::read(&file).unwrap();
     let header = *File::check(&bytes).unwrap().header();
-    assert_eq!((header.max_x, header.min_x), (-1.5, 2.0));
-    assert_eq!((header.max_y, header.min_y), (3_000.0, 4.0));
+    assert_eq!((header.max_x, header.min_x), (2.0, -1.5));
+    assert_eq!((header.max_y, header.min_y), (3_000.0, 3_000.0));
     assert!(header.max_z.is_nan() && header.min_z == f64::NEG_INFINITY);
     for wrong in ["1,2,3,4,5", "1,2,3,4,5,6,7", "1,2,3,4,5,six", ""] {
         let (_, err, status) = append(&file, &[from, "--believed", "5", "--bounds", wrong]);
         assert!(err.contains("--bounds needs six numbers"), "{err}");
+        assert_eq!((status, fs::read(&file).unwrap()), (Some(2), bytes.clone()));
+    }
+    for (wrong, said) in [
+        ("-1.5,2,4,3,6,5", "max x -1.5 is below min x 2"),
+        ("2,1,3,4,6,5", "max y 3 is below min y 4"),
+        ("2,1,4,3,5,6", "max z 5 is below min z 6"),
+    ] {
+        let (_, err, status) = append(&file, &[from, "--believed", "5", "--bounds", wrong]);
+        let order = "each max before its min (max x, min x, max y, min y, max z, min z)";
+        assert!(err.contains(order) && err.contains(said), "{err}");
         assert_eq!((status, fs::read(&file).unwrap()), (Some(2), bytes.clone()));
     }
 }
@@ -282,7 +292,7 @@ fn what_cannot_be_done() {
         (&[], "it needs FILE RECORDS"),
         (&["--believed", "3"], "it needs FILE RECORDS"),
         (
-            &["--room", "3", "--bounds", "1,2,3,4,5,6"],
+            &["--room", "3", "--bounds", "2,1,4,3,6,5"],
             "it needs FILE RECORDS",
         ),
         (
