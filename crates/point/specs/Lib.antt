@@ -4,3 +4,5 @@ pub mod Marks
 -- laws
 pub mod Kind
 pub mod Answer
+-- theorems
+pub mod Theorems

@@ -2,7 +2,7 @@
 use Prim.Native.Nat.{ℕ, _+_}
 use mathlib.Core.Bool.{Bool, cond}
 use mathlib.Core.List.{List, []}
-use lib.Dec.{ltb, eqb}
+use lib.Dec.{ltb}
 use lib.IntN.{pos}
 use lib.ListN.{length, take, drop}
 use mir.Syntax.{w8, w16, w32}
@@ -58,13 +58,9 @@ unfoldable pub colorAt : Bool → ℕ → List ℕ → maybe-color.MaybeColor
 colorAt has at s =
     cond has (some-color.Some (record { red = num 2 at s; green = num 2 (at + 2) s; blue = num 2 (at + 4) s })) some-color.None
 
--- "NIR 0 reads as missing"
-unfoldable pub nirOf : ℕ → maybe-nir.MaybeNir
-nirOf n = cond (eqb n 0) some-nir.None (some-nir.Some n)
-
--- "NIR (u16)"
+-- "NIR (u16)"; document 02, No. 5: "zero as a value; missing remains for formats without the field"
 unfoldable pub nirAt : Bool → ℕ → List ℕ → maybe-nir.MaybeNir
-nirAt has at s = cond has (nirOf (num 2 at s)) some-nir.None
+nirAt has at s = cond has (some-nir.Some (num 2 at s)) some-nir.None
 
 -- "A waveform holds four f32 numbers after an index (u8), an offset (u64) and a size (u32)", 29 bytes; a NaN's bits are kept beside
 unfoldable pub waveformAt : ℕ → List ℕ → waveform.Waveform

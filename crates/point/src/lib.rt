@@ -8,7 +8,7 @@ ghost use Prim.Native.Nat.{_+_, _≤_};
 ghost use lib.Dec.{ltb};
 ghost use lib.ListN.{length, take, drop};
 ghost use Rattle.format.specs.Fields.{recordBytes};
-ghost use Rattle.point.specs.Read.{fieldOf, flagsAt, angleAt, timeAt, colorAt, nirOf, nirAt, waveformAt, maybeWaveformAt, pointOf, sizedOf, readOf, extraOf, noPoint};
+ghost use Rattle.point.specs.Read.{fieldOf, flagsAt, angleAt, timeAt, colorAt, nirAt, waveformAt, maybeWaveformAt, pointOf, sizedOf, readOf, extraOf, noPoint};
 use angle::ScanAngle;
 use flags::Flags;
 use format::Field;
@@ -231,24 +231,14 @@ fn color_at(s: &[u8], has: bool, at: usize) -> MaybeColor
     MaybeColor::None
 }
 
-// The near infrared, where the format has it and it isn't 0.
+// The near infrared, where the format has it: 0 is a number like any other.
 fn nir_at(s: &[u8], has: bool, at: usize) -> MaybeNir
     ensures { λ r. ⌜ r ≡ nirAt has at (now (s .entry)) ⌝ }
 {
     if has {
-        return some_or_none_if_zero(le::u16_at(s, at));
+        return MaybeNir::Some(le::u16_at(s, at));
     }
     MaybeNir::None
-}
-
-// NIR 0 reads as missing.
-fn some_or_none_if_zero(n: u16) -> MaybeNir
-    ensures { λ r. ⌜ r ≡ nirOf n ⌝ }
-{
-    if n == 0 {
-        return MaybeNir::None;
-    }
-    MaybeNir::Some(n)
 }
 
 // The waveform, where the format has it.

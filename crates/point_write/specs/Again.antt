@@ -5,7 +5,6 @@ use mathlib.Core.Bool.{Bool, true, false, cond}
 use mathlib.Core.List.{List, [], _∷_, _++_}
 use native.Mathlib.Nat.{mod-eq-of-lt}
 use native.Mathlib.Omega.{arith}
-use borrow.Author.Tests.{ne-eqb}
 use lib.Ieee.{Float, binary32}
 use lib.IntN.{ℤ}
 use lib.ListN.{take, drop}
@@ -39,11 +38,11 @@ use Rattle.point.specs.declared.MaybeWaveform.the-variants as some-waveform
 use Rattle.point.specs.declared.MaybeNir.{MaybeNir}
 use Rattle.point.specs.declared.MaybeNir.the-variants as some-nir
 use Rattle.point.specs.declared.Point.{Point}
-use Rattle.point.specs.Read.{fieldOf, flagsAt, angleAt, timeAt, colorAt, nirOf, nirAt, waveformAt, maybeWaveformAt, pointOf}
+use Rattle.point.specs.Read.{fieldOf, flagsAt, angleAt, timeAt, colorAt, nirAt, waveformAt, maybeWaveformAt, pointOf}
 use Rattle.point_bytes.specs.Bytes.{timeBytes, colorBytes, nirBytes, waveformBytes, threeList}
 use Rattle.point_write.specs.Write.{fieldBytes, recordOf, twoList}
-use Rattle.point_write.specs.Held.{FlagsHeld, AngleHeld, TimeHeld, ColorHeld, NirHeld, WaveformHeld, F32Held, Held}
-use Rattle.point_write.specs.Taken.{Taken, field-length}
+use Rattle.point_write.specs.Held.{FlagsHeld, AngleHeld, TimeHeld, ColorHeld, NirHeld, WaveformHeld, F32Held, Held, nirIn, shownIn}
+use Rattle.point_write.specs.Taken.{Taken, field-length, record-same}
 
 module _ (s : List ℕ) where
   signed-again : (w : Width) (n at : ℕ) (z : ℤ) → 2 ^ bits w ≡ 256 ^ n → SFits w z → take n (drop at s) ≡ bytes n (ofZ w z) → toZ w (num n at s) ≡ z
@@ -91,11 +90,10 @@ module _ (s : List ℕ) where
   color-again false at (some-color.Some c) h e = absurd h
 
   nir-again : (has : Bool) (at : ℕ) (n : MaybeNir) → NirHeld has n → (has ≡ true → take 2 (drop at s) ≡ nirBytes n) → nirAt has at s ≡ n
-  unfolding nirAt nirOf
-  nir-again true at (some-nir.Some n) (more, h) e =
-      rw (num-bytes 2 at s n h (e refl), ne-eqb n 0 (λ z. omega arith))
-  nir-again true at some-nir.None h e = rw (num-bytes 2 at s 0 (omega arith) (e refl))
+  unfolding nirAt
+  nir-again true at (some-nir.Some n) h e = ap some-nir.Some (num-bytes 2 at s n h (e refl))
   nir-again false at some-nir.None h e = refl
+  nir-again true at some-nir.None h e = absurd h
   nir-again false at (some-nir.Some n) h e = absurd h
 
   f32-again : {value : Float} {nan : ℕ} (at : ℕ) → F32Held value nan → num 4 at s ≡ patternOf binary32 value nan → f32Of (num 4 at s) ≡ record { value = value; nan = nan }
@@ -157,3 +155,27 @@ module _ (f : Format) (p : Point) (e : List ℕ) (held : Held f p e) where
 
   pub extra-again : (rest : List ℕ) → fieldOf f ExtraBytes (recordOf f p e ++ rest) ≡ e
   extra-again rest = written-at rest ExtraBytes refl
+
+-- a point without near infrared is written as one with 0
+nir-shown : (has : Bool) (n : MaybeNir) → nirBytes n ≡ nirBytes (nirIn has n)
+nir-shown true some-nir.None = refl
+nir-shown true (some-nir.Some n) = refl
+nir-shown false n = refl
+
+pub shown-record : (f : Format) (p : Point) (e : List ℕ) → recordOf f p e ≡ recordOf f (shownIn f p) e
+shown-record f p e = record-same f p (shownIn f p) e same
+  where
+    same : (x : Field) → hasOf f x ≡ true → fieldBytes f p e x ≡ fieldBytes f (shownIn f p) e x
+    same X has = refl
+    same Y has = refl
+    same Z has = refl
+    same Intensity has = refl
+    same Flags has = refl
+    same UserData has = refl
+    same ScanAngle has = refl
+    same PointSourceId has = refl
+    same GpsTime has = refl
+    same Color has = refl
+    same Nir has = nir-shown (f .«has_nir») (p .nir)
+    same Waveform has = refl
+    same ExtraBytes has = refl

@@ -4,8 +4,6 @@ use mathlib.Core.Path.{_≡_, refl, ap, sym, _∙_}
 use mathlib.Core.Bool.{Bool, true, false, cond}
 use mathlib.Core.List.{List, [], _∷_, _++_}
 use native.Mathlib.Omega.{arith}
-use borrow.Author.Tests.{eqb-true}
-use lib.Dec.{eqb}
 use lib.Ieee.{binary32}
 use lib.ListN.{length, take, drop}
 use mir.Syntax.{Width, w8, w16, w32}
@@ -23,18 +21,9 @@ use Rattle.format.specs.Laws.{fields-follow}
 use Rattle.format.specs.Each.{each-field}
 use Rattle.flags.specs.Bytes.{twoBytesOf, threeBytesOf}
 use Rattle.angle.specs.Angle.{toRank, toScaled}
-use Rattle.point.specs.Read.{fieldOf, flagsAt, angleAt, timeAt, colorAt, nirOf, nirAt, waveformAt, maybeWaveformAt, pointOf}
+use Rattle.point.specs.Read.{fieldOf, flagsAt, angleAt, timeAt, colorAt, nirAt, waveformAt, maybeWaveformAt, pointOf}
 use Rattle.point_bytes.specs.Bytes.{timeBytes, colorBytes, nirBytes, waveformBytes, threeList}
 use Rattle.point_write.specs.Write.{twoList, fieldBytes, recordOf}
-
--- NIR 0 reads as missing, and missing is written as 0
-nir-back : (n : ℕ) → nirBytes (nirOf n) ≡ bytes 2 n
-unfolding nirOf
-nir-back n = go (eqb n 0) refl
-  where
-    go : (t : Bool) → eqb n 0 ≡ t → nirBytes (nirOf n) ≡ bytes 2 n
-    go true e = rw (eqb-true n 0 e)
-    go false e = rw e
 
 module _ (s : List ℕ) (all : Bytes s) where
   -- a number of n bytes is one of as many bits
@@ -70,9 +59,9 @@ module _ (s : List ℕ) (all : Bytes s) where
   unfolding colorAt
   color-back has at e h = rw e (span-num 2 (2 ∷ 2 ∷ []) at s all h)
 
-  some-nir-back : (has : Bool) (at : ℕ) → has ≡ true → at + 2 ≤ length s → nirBytes (nirAt has at s) ≡ take 2 (drop at s)
+  nir-back : (has : Bool) (at : ℕ) → has ≡ true → at + 2 ≤ length s → nirBytes (nirAt has at s) ≡ take 2 (drop at s)
   unfolding nirAt
-  some-nir-back has at e h = rw e (nir-back (num 2 at s) ∙ bytes-num 2 at s all h)
+  nir-back has at e h = rw e (bytes-num 2 at s all h)
 
   pub f32-back : (at : ℕ) → patternOf binary32 (f32Of (num 4 at s) .value) (f32Of (num 4 at s) .nan) ≡ num 4 at s
   f32-back at = sym (f32-bits-is (f32Of (num 4 at s))) ∙ f32-kept (num 4 at s) (num-lt 4 s at all)
@@ -98,7 +87,7 @@ module _ (s : List ℕ) (all : Bytes s) (f : Format) where
   field-back PointSourceId has = bytes-num 2 (placeOf f PointSourceId) s all
   field-back GpsTime has = time-back s all (f .«has_gps_time») (placeOf f GpsTime) has
   field-back Color has = color-back s all (f .«has_color») (placeOf f Color) has
-  field-back Nir has = some-nir-back s all (f .«has_nir») (placeOf f Nir) has
+  field-back Nir has = nir-back s all (f .«has_nir») (placeOf f Nir) has
   field-back Waveform has = waveform-back s all (f .«has_waveform») (placeOf f Waveform) has
   field-back ExtraBytes has = λ h. refl
 

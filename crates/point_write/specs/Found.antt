@@ -4,8 +4,6 @@ use mathlib.Core.Path.{_≡_, refl, ap}
 use mathlib.Core.Bool.{Bool, true, false, cond}
 use mathlib.Core.List.{List}
 use native.Mathlib.Omega.{arith}
-use borrow.Author.Tests.{eqb-false}
-use lib.Dec.{eqb}
 use lib.ListN.{length}
 use mir.Syntax.{w8, w16, w32}
 use mir.ValLaws.{toZ-fits}
@@ -15,22 +13,10 @@ use Rattle.le.specs.Real.{f32Of, f64Of, f64BitsOf, f64-kept}
 use Rattle.format.specs.declared.Format.{Format}
 use Rattle.format.specs.declared.Field.the-variants.{Flags, ScanAngle, PointSourceId, GpsTime, Color, Nir, Waveform, ExtraBytes}
 use Rattle.format.specs.Fields.{placeOf, recordBytes}
-use Rattle.point.specs.declared.MaybeNir.the-variants as some-nir
-use Rattle.point.specs.Read.{fieldOf, flagsAt, angleAt, timeAt, colorAt, nirOf, nirAt, waveformAt, maybeWaveformAt, pointOf}
+use Rattle.point.specs.Read.{fieldOf, flagsAt, angleAt, timeAt, colorAt, nirAt, waveformAt, maybeWaveformAt, pointOf}
 use Rattle.point.specs.Answer.{extra-length}
 use Rattle.point_write.specs.Back.{num-fits, f32-back}
 use Rattle.point_write.specs.Held.{FlagsHeld, AngleHeld, TimeHeld, ColorHeld, NirHeld, F32Held, WaveformHeld, Held}
-
--- NIR 0 is read as missing
-nir-found : (n : ℕ) → n < 65536 → NirHeld true (nirOf n)
-unfolding nirOf
-nir-found n h = go (eqb n 0) refl
-  where
-    go : (t : Bool) → eqb n 0 ≡ t → NirHeld true (cond t some-nir.None (some-nir.Some n))
-    go true e = tt
-    go false e =
-        let some : n ≡ 0 → ⊥ = eqb-false n 0 e in
-        (omega arith, h)
 
 module _ (s : List ℕ) (all : Bytes s) where
   flags-found : (c : Bool) (at : ℕ) → FlagsHeld c (flagsAt c at s)
@@ -55,10 +41,10 @@ module _ (s : List ℕ) (all : Bytes s) where
   color-found true at = (num-lt 2 s at all, (num-lt 2 s (at + 2) all, num-lt 2 s (at + 4) all))
   color-found false at = tt
 
-  some-nir-found : (has : Bool) (at : ℕ) → NirHeld has (nirAt has at s)
+  nir-found : (has : Bool) (at : ℕ) → NirHeld has (nirAt has at s)
   unfolding nirAt
-  some-nir-found true at = nir-found (num 2 at s) (num-lt 2 s at all)
-  some-nir-found false at = tt
+  nir-found true at = num-lt 2 s at all
+  nir-found false at = tt
 
   f32-found : (at : ℕ) → F32Held (f32Of (num 4 at s) .value) (f32Of (num 4 at s) .nan)
   f32-found at = record { fits = rw (f32-back s all at) (num-lt 4 s at all); own = ap f32Of (f32-back s all at) }
@@ -92,6 +78,6 @@ module _ (s : List ℕ) (all : Bytes s) where
         «gps_time» = time-found (f .«has_gps_time») (placeOf f GpsTime);
         color = color-found (f .«has_color») (placeOf f Color);
         waveform = waveform-found (f .«has_waveform») (placeOf f Waveform);
-        nir = some-nir-found (f .«has_nir») (placeOf f Nir);
+        nir = nir-found (f .«has_nir») (placeOf f Nir);
         extra = extra-length f s h;
       }

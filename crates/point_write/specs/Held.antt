@@ -61,10 +61,10 @@ ColorHeld false some-color.None = Unit
 ColorHeld true some-color.None = ⊥
 ColorHeld false (some-color.Some c) = ⊥
 
--- but NIR may be missing: it is written as 0 and read as missing, so 0 itself is not held
 abbrev pub NirHeld : Bool → MaybeNir → Type 0
-NirHeld true (some-nir.Some n) = (0 < n) × (n < 65536)
-NirHeld b some-nir.None = Unit
+NirHeld true (some-nir.Some n) = n < 65536
+NirHeld false some-nir.None = Unit
+NirHeld true some-nir.None = ⊥
 NirHeld false (some-nir.Some n) = ⊥
 
 pub record OneWaveformHeld (w : waveform.Waveform) : Type 0 where
@@ -96,3 +96,26 @@ pub record Held (f : Format) (p : Point) (e : List ℕ) : Type 0 where
   pub waveform : WaveformHeld (f .«has_waveform») (p .waveform)
   pub nir : NirHeld (f .«has_nir») (p .nir)
   pub extra : length e ≡ f .«extra_bytes»
+
+-- "On writing, a missing .. NIR .. is zero bits", which a format that has the field reads as 0: what is read of a point that was written
+abbrev pub nirIn : Bool → MaybeNir → MaybeNir
+nirIn true some-nir.None = some-nir.Some 0
+nirIn true (some-nir.Some n) = some-nir.Some n
+nirIn false n = n
+
+abbrev pub shownIn : Format → Point → Point
+shownIn f p =
+    record {
+      x = p .x;
+      y = p .y;
+      z = p .z;
+      intensity = p .intensity;
+      flags = p .flags;
+      «scan_angle» = p .«scan_angle»;
+      «user_data» = p .«user_data»;
+      «point_source_id» = p .«point_source_id»;
+      «gps_time» = p .«gps_time»;
+      color = p .color;
+      waveform = p .waveform;
+      nir = nirIn (f .«has_nir») (p .nir);
+    }

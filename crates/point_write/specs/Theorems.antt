@@ -15,9 +15,9 @@ use Rattle.point_write.specs.Write.{recordOf, writtenOf}
 use Rattle.point_write.specs.Back.{record-back}
 use Rattle.point_write.specs.Answered.{Answered, answered, answered-written}
 use Rattle.point_write.specs.Past.{point-take, read-take}
-use Rattle.point_write.specs.Held.{Held}
+use Rattle.point_write.specs.Held.{Held, shownIn}
 use Rattle.point_write.specs.Found.{point-found}
-use Rattle.point_write.specs.Again.{point-again, extra-again}
+use Rattle.point_write.specs.Again.{point-again, extra-again, shown-record}
 use Rattle.point_write.specs.Accepted.{accepted-again}
 
 module _ (f : Format) (s : List ℕ) where
@@ -62,3 +62,14 @@ module _ (f : Format) (p : Point) (e : List ℕ) (held : Held f p e) where
   -- The same of the functions: where `write_to` does not refuse, `read_from` and `extra_bytes` answer what was written.
   pub written-then-answered : (n : ℕ) (d left : List ℕ) → writtenOf f p e d ≡ (wrote.Bytes n, left) → (readOf f left ≡ Is p) × (extraOf f left ≡ e)
   written-then-answered = accepted-again f p e held
+
+-- "On writing, a missing .. NIR .. is zero bits", and document 02, No. 5, shows these as 0: a point without near infrared, written into a
+-- format that has it, is read again with 0 there, and as itself in all else.
+module _ (f : Format) (p : Point) (e : List ℕ) (held : Held f (shownIn f p) e) (rest : List ℕ) where
+  pub missing-then-zero : pointOf f (recordOf f p e ++ rest) ≡ shownIn f p
+  missing-then-zero = ap (λ (l : List ℕ). pointOf f (l ++ rest)) (shown-record f p e) ∙ written-then-read f (shownIn f p) e held rest
+
+  pub extra-beside-missing : fieldOf f ExtraBytes (recordOf f p e ++ rest) ≡ e
+  extra-beside-missing =
+      ap (λ (l : List ℕ). fieldOf f ExtraBytes (l ++ rest)) (shown-record f p e)
+      ∙ extra-written-then-read f (shownIn f p) e held rest

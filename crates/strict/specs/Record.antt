@@ -35,17 +35,17 @@ use Rattle.point_write.specs.Write.{twoList, fieldBytes, recordOf}
 use Rattle.point_write.specs.Taken.{record-length, record-same}
 use Rattle.point_write.specs.Again.{held-taken}
 use Rattle.point_write.specs.Octets.{record-made}
-use Rattle.point_write.specs.Held.{FlagsHeld, AngleHeld, TimeHeld, ColorHeld, NirHeld, WaveformHeld, Held}
-use Rattle.point_write.specs.Theorems.{read-then-written, read-is-held, written-then-read, extra-written-then-read}
+use Rattle.point_write.specs.Held.{FlagsHeld, AngleHeld, TimeHeld, ColorHeld, NirHeld, WaveformHeld, Held, nirIn, shownIn}
+use Rattle.point_write.specs.Theorems.{read-then-written, read-is-held, written-then-read, extra-written-then-read, missing-then-zero, extra-beside-missing}
 use Rattle.strict.specs.declared.Fit.the-variants.{Fits}
-use Rattle.strict.specs.Fit.{flagsFitOf, fitOf}
+use Rattle.strict.specs.Fit.{flagsFitOf, nirFitOf, fitOf}
 use Rattle.strict.specs.Upgrade.{upgradedFlags, upgradedOld, upgradedOf}
 use Rattle.pairs.specs.Paired.{Paired}
 use Rattle.pairs.specs.Sound.{not-up}
 use Rattle.strict.specs.Shown.{Same, downImage, upImage}
 use Rattle.strict.specs.Made.{old-first, old-second}
 use Rattle.strict.specs.Laws.{fitting, bytes-of-fitting, fits-down}
-use Rattle.strict.specs.Whole.{fit-parts, angle-exact, nir-none}
+use Rattle.strict.specs.Whole.{fit-parts, parts-fit, angle-exact, nir-none}
 use Rattle.strict.specs.Back.{upgraded-held, upgraded-bytes, upgraded-fits}
 
 -- the point that an old record has of p: its two bytes of flags, its rank, and no near infrared
@@ -125,7 +125,7 @@ module _ (new old : Format) (pair : Paired new old) (p : Point) (e : List ℕ) w
           «gps_time» = subst (λ (b : Bool). TimeHeld b (p .«gps_time»)) (pair .time) (has .«gps_time»);
           color = subst (λ (b : Bool). ColorHeld b (p .color)) (pair .color) (has .color);
           waveform = subst (λ (b : Bool). WaveformHeld b (p .waveform)) (pair .waveform) (has .waveform);
-          nir = tt;
+          nir = rw (pair .no-nir) tt;
           extra = has .extra ∙ pair .extra;
         }
 
@@ -182,6 +182,15 @@ nir-back : (n : MaybeNir) → NirHeld false n → None ≡ n
 nir-back (Some n) h = absurd h
 nir-back None h = refl
 
+-- a missing near infrared is held, and fits, as it is shown: as 0 where the format has one
+none-held : (has : Bool) → NirHeld has (nirIn has None)
+none-held true = omega arith
+none-held false = tt
+
+none-fits : (has : Bool) → nirFitOf (nirIn has None) ≡ Fits
+none-fits true = refl
+none-fits false = refl
+
 -- an old point of two bytes of flags
 module _ (new old : Format) (pair : Paired new old) (p : Point) (e : List ℕ) (has : Held old p e) (a b : ℕ) (is-two : p .flags ≡ TwoByte a b) where
   angle-held : AngleHeld false (p .«scan_angle»)
@@ -192,8 +201,11 @@ module _ (new old : Format) (pair : Paired new old) (p : Point) (e : List ℕ) (
       let h : FlagsHeld false (p .flags) = subst (λ (c : Bool). FlagsHeld c (p .flags)) (pair .is-old) (has .flags) in
       subst (FlagsHeld false) is-two h
 
-  -- the new format holds what it becomes
-  pub up-held : Held new (upgradedOld p a b) e
+  -- what the new format shows of it, brought up, and holds
+  abbrev up : Point
+  up = shownIn new (upgradedOld p a b)
+
+  pub up-held : Held new up e
   unfolding upgradedOld
   up-held =
       record {
@@ -208,7 +220,7 @@ module _ (new old : Format) (pair : Paired new old) (p : Point) (e : List ℕ) (
         «gps_time» = subst (λ (c : Bool). TimeHeld c (p .«gps_time»)) (sym (pair .time)) (has .«gps_time»);
         color = subst (λ (c : Bool). ColorHeld c (p .color)) (sym (pair .color)) (has .color);
         waveform = subst (λ (c : Bool). WaveformHeld c (p .waveform)) (sym (pair .waveform)) (has .waveform);
-        nir = tt;
+        nir = none-held (new .«has_nir»);
         extra = has .extra ∙ sym (pair .extra);
       }
 
@@ -217,7 +229,7 @@ module _ (new old : Format) (pair : Paired new old) (p : Point) (e : List ℕ) (
     bytes-back = upgraded-bytes a b not-28 (flags-held .0) (flags-held .1)
 
     -- and its old point is the one that it came from
-    down-up : downOf (upgradedOld p a b) ≡ p
+    down-up : downOf up ≡ p
     unfolding downOf upgradedOld
     down-up = λ i. record {
       x = p .x;
@@ -234,17 +246,20 @@ module _ (new old : Format) (pair : Paired new old) (p : Point) (e : List ℕ) (
       nir = nir-back (p .nir) (subst (λ (c : Bool). NirHeld c (p .nir)) (pair .no-nir) (has .nir)) i;
     }
 
-    pub up-down : recordOf old (upgradedOld p a b) e ≡ recordOf old p e
+    pub up-down : recordOf old up e ≡ recordOf old p e
     unfolding upgradedOld
     up-down =
-        down-record old (upgradedOld p a b) e (pair .is-old) (pair .no-nir) a b bytes-back
+        down-record old up e (pair .is-old) (pair .no-nir) a b bytes-back
         ∙ ap (λ (q : Point). recordOf old q e) down-up
 
-    pub up-fits : fitOf (upgradedOld p a b) ≡ Fits
+    pub up-fits : fitOf up ≡ Fits
+    unfolding upgradedOld
     up-fits = go (p .«scan_angle») refl angle-held
       where
-        go : (x : angle.ScanAngle) → p .«scan_angle» ≡ x → AngleHeld false x → fitOf (upgradedOld p a b) ≡ Fits
-        go (Rank r) is h = upgraded-fits a b not-28 p r is h
+        go : (x : angle.ScanAngle) → p .«scan_angle» ≡ x → AngleHeld false x → fitOf up ≡ Fits
+        go (Rank r) is h =
+            let fit = fit-parts (upgradedOld p a b) (upgraded-fits a b not-28 p r is h) in
+            parts-fit up (fit .0) (none-fits (new .«has_nir»)) (fit .2)
         go (Scaled n) is h = absurd h
 
 -- the same of a record's bytes
@@ -277,8 +292,8 @@ module _ (new old : Format) (pair : Paired new old) (s : List ℕ) (all : Bytes 
       go (ThreeByte a b c) is h = absurd h
       go (TwoByte a b) is h =
           let u = upgradedOld p a b in
-          let up : upImage old new s ≡ recordOf new u e = rw is in
+          let is-up : upImage old new s ≡ recordOf new u e = rw is in
           let held = up-held new old pair p e has a b is in
           let other : classOf (TwoByte a b) ≡ 28 → ⊥ = subst (λ (f : flags.Flags). classOf f ≡ 28 → ⊥) is not-28 in
-          rw (up, written-then-read new u e held rest, extra-written-then-read new u e held rest)
+          rw (is-up, missing-then-zero new u e held rest, extra-beside-missing new u e held rest)
           (up-fits new old pair p e has a b is other, up-down new old pair p e has a b is other ∙ read-then-written old s all long)

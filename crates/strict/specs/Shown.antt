@@ -52,7 +52,7 @@ abbrev pub exactRank : ScanAngle → ℤ
 exactRank (Rank r) = r
 exactRank (Scaled n) = nearestRank n
 
--- a missing near infrared is zero
+-- document 02, No. 5: "demand 3 reads a missing NIR, in the old record or the new, as zero"
 abbrev pub nirNumber : MaybeNir → ℕ
 nirNumber (Some n) = n
 nirNumber None = 0

@@ -2,7 +2,7 @@
 -- gives each record in turn, and at the end answers 27 and stays."
 use Prim.Native.Nat.{ℕ, _+_, _*_, _≤_, _<_}
 use mathlib.Core.Path.{_≡_, ap, subst, _∙_}
-use mathlib.Core.Bool.{and-false}
+use mathlib.Core.Bool.{true, and-false}
 use mathlib.Core.List.{List}
 use borrow.Author.Tests.{lt-leb}
 use lib.ListN.{length, take, drop}
@@ -11,10 +11,13 @@ use Rattle.le.specs.Le.{Bytes}
 use Rattle.refusal.specs.declared.Refusal.{Refusal}
 use Rattle.refusal.specs.declared.Refusal.the-variants.{Index}
 use Rattle.format.specs.declared.Format.{Format}
+use Rattle.format.specs.declared.Field.the-variants.{Nir}
 use Rattle.format.specs.Fields.{recordBytes}
 use Rattle.point.specs.declared.PointRead.the-variants as read
-use Rattle.point.specs.Read.{pointOf}
+use Rattle.point.specs.declared.MaybeNir.the-variants.{Some}
+use Rattle.point.specs.Read.{numberIn, pointOf}
 use Rattle.point.specs.Read as point
+use Rattle.point.specs.Theorems.{nir-shown}
 use Rattle.header.specs.Judged.{readOf}
 use Rattle.outline.specs.declared.Outline.{Outline}
 use Rattle.outline.specs.Outline.{outlineOf}
@@ -69,6 +72,11 @@ module _ (allowance : ℕ) (file : RefT (List ℕ)) where
         subst (λ (l : List ℕ). (point.readOf f l ≡ read.Is (pointOf f l)) × (answerOf k (walkerOf allowance file) ≡ Point (pointOf f l)))
         (nth-is allowance file n accepted k)
         (reads k (firstOf file) r h, ap (answerOf k) (at-first allowance file n accepted) ∙ gives k (firstOf file) r h)
+
+    -- Document 02, No. 5: "Point reader, walker .. say so": where the format has near infrared, the k-th point shows the number that its
+    -- record stores, 0 too.
+    pub nir-in-turn : f .«has_nir» ≡ true → (k : ℕ) → k < o .«number_of_point_records» → (answerOf k (walkerOf allowance file) ≡ Point (pointOf f (nth k))) × (pointOf f (nth k) .nir ≡ Some (numberIn f Nir (nth k)))
+    nir-in-turn has k h = (in-turn k h .1, nir-shown f (nth k) (pointOf f (nth k)) (in-turn k h .0) has)
 
     -- The record whose point is answered, and so its extra bytes, is those bytes of the file.
     pub bytes-in-turn : (k : ℕ) → k < o .«number_of_point_records» → recordOf (now file) (walkedOn k (walkerOf allowance file) .place) ≡ nth k
