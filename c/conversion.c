@@ -132,14 +132,21 @@ static void test_refused_records(void) {
         las_strict_check(point, row);
         CHECK(told(row, LAS_OK, 0, 0));
     }
+    point[LAS_POINT_NIR] = 7; /* missing still */
+    las_strict_check(point, row);
+    CHECK(told(row, LAS_OK, 0, 0));
     point[LAS_POINT_HAS_NIR] = 1;
-    point[LAS_POINT_NIR] = 7;
     las_strict_check(point, row);
     CHECK(told(row, LAS_REFUSED_NIR, 7, 0));
 
-    /* near infrared, of format 8: two bytes after the colour */
+    /* near infrared, of format 8: two bytes after the colour, of which 0 is read as it stands, and fits */
     uint8_t infrared[38] = {0};
     infrared[14] = 0x11;
+    const uint32_t eight = LAS_FORMAT_TIME | LAS_FORMAT_COLOR | LAS_FORMAT_EXTENDED | LAS_FORMAT_NIR;
+    las_point_read(infrared, sizeof infrared, eight, row, point);
+    CHECK(told(row, LAS_OK, 0, 0) && point[LAS_POINT_HAS_NIR] == 1 && point[LAS_POINT_NIR] == 0);
+    las_strict_check(point, row);
+    CHECK(told(row, LAS_OK, 0, 0));
     las_convert_to_old(infrared, sizeof infrared, 8, 0, 1, dst, sizeof dst, row);
     CHECK(told(row, LAS_OK, 34, 0));
     infrared[37] = 1;
@@ -164,6 +171,21 @@ static void test_upgraded(void) {
     new[LAS_POINT_FLAGS] = las_flags_two_bytes(0x09, 12);
     las_strict_upgraded(new);
     CHECK(new[LAS_POINT_FLAGS] == las_flags_three_bytes(0x11, 0x08, 12));
+
+    /* it has no near infrared, and in format 10 that is 0 */
+    uint64_t row[3];
+    uint8_t old[63] = {0}, record[67];
+    new[LAS_POINT_FLAGS] = las_flags_two_bytes(0x09, 2);
+    new[LAS_POINT_HAS_NIR] = 1;
+    las_strict_upgraded(new);
+    CHECK(new[LAS_POINT_HAS_NIR] == 0 && new[LAS_POINT_NIR] == 0);
+    fill_numbers(row, 3);
+    fill_bytes(record, sizeof record);
+    las_convert_to_new(old, sizeof old, 5, 0, 1, record, sizeof record, row);
+    CHECK(told(row, LAS_OK, 67, 0) && number_at(record + 36, 2) == 0);
+    const uint32_t ten = LAS_FORMAT_TIME | LAS_FORMAT_COLOR | LAS_FORMAT_EXTENDED | LAS_FORMAT_WAVEFORM | LAS_FORMAT_NIR;
+    las_point_read(record, sizeof record, ten, row, new);
+    CHECK(told(row, LAS_OK, 0, 0) && new[LAS_POINT_HAS_NIR] == 1 && new[LAS_POINT_NIR] == 0);
 }
 
 void test_conversion(void) {

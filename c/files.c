@@ -272,6 +272,38 @@ static void test_file_walker(void) {
     CHECK(left_numbers(point, LAS_POINT_NUMBERS));
 }
 
+/* Near infrared of a file's points: 0 as it stands, by the walker, and the same bytes rewritten; missing where the same records
+ * are of a format without it. */
+static void test_near_infrared_of_points(void) {
+    static const uint16_t infrared[3] = {0, 1, 65535};
+    uint64_t row[3], place[LAS_PLACE_NUMBERS], numbers[LAS_HEADER_NUMBERS], point[LAS_POINT_NUMBERS];
+    uint8_t file[375 + 3 * 38] = {0}, dst[sizeof file];
+    fill_numbers(row, 3);
+    new_header(numbers, 4, 8);
+    numbers[LAS_HEADER_LEGACY_POINTS] = 3;
+    las_header_write(numbers, guid, system_identifier, software, nothing, 0, file, sizeof file, row);
+    CHECK(told(row, LAS_OK, 375, 0));
+    for (size_t i = 0; i < 3; i++) {
+        file[375 + 38 * i + 36] = (uint8_t)(infrared[i] & 255);
+        file[375 + 38 * i + 37] = (uint8_t)(infrared[i] >> 8);
+    }
+
+    las_file_walker(file, sizeof file, 0, place);
+    for (size_t i = 0; i < 3; i++) {
+        las_file_next(file, sizeof file, place, row, point);
+        CHECK(told(row, LAS_OK, 0, 0) && point[LAS_POINT_HAS_NIR] == 1 && point[LAS_POINT_NIR] == infrared[i]);
+    }
+    las_file_rewrite(file, sizeof file, 0, dst, sizeof dst, row);
+    CHECK(told(row, LAS_OK, sizeof file, 0) && memcmp(dst, file, sizeof file) == 0);
+
+    file[104] = 7; /* with two extra bytes */
+    las_file_walker(file, sizeof file, 0, place);
+    for (size_t i = 0; i < 3; i++) {
+        las_file_next(file, sizeof file, place, row, point);
+        CHECK(told(row, LAS_OK, 0, 0) && point[LAS_POINT_HAS_NIR] == 0 && point[LAS_POINT_NIR] == 0);
+    }
+}
+
 static void test_file_rewrite(void) {
     uint64_t row[3];
     static uint8_t file[700], dst[800];
@@ -298,5 +330,6 @@ void test_files(void) {
     test_file_parts();
     test_cursor();
     test_file_walker();
+    test_near_infrared_of_points();
     test_file_rewrite();
 }

@@ -119,9 +119,52 @@ static void test_old_point(void) {
     CHECK(told(row, LAS_OK, 34, 0) && number_at(dst + 12, 2) == 1 && number_at(dst + 14, 2) == 0x0209);
 }
 
+/* Near infrared: in a format that has it 0 is a number like any other, in one that has not it is missing, and where it is missing
+ * it is written as zero bits. */
+static void test_near_infrared(void) {
+    const uint32_t without = LAS_FORMAT_TIME | LAS_FORMAT_COLOR | LAS_FORMAT_EXTENDED; /* format 7 */
+    const uint32_t with = without | LAS_FORMAT_NIR;                                    /* format 8 */
+    uint64_t row[3], point[LAS_POINT_NUMBERS], read[LAS_POINT_NUMBERS];
+    uint8_t record[38] = {0}, dst[40], again[38];
+    fill_numbers(row, 3);
+
+    /* a record of zeros, in both formats */
+    fill_numbers(read, LAS_POINT_NUMBERS);
+    las_point_read(record, sizeof record, with, row, read);
+    CHECK(told(row, LAS_OK, 0, 0) && read[LAS_POINT_HAS_NIR] == 1 && read[LAS_POINT_NIR] == 0);
+    fill_numbers(read, LAS_POINT_NUMBERS);
+    las_point_read(record, sizeof record, without, row, read);
+    CHECK(told(row, LAS_OK, 0, 0) && read[LAS_POINT_HAS_NIR] == 0 && read[LAS_POINT_NIR] == 0);
+
+    /* every number, of the two bytes after the colour */
+    bool shown = true;
+    memset(record, 0xFF, sizeof record);
+    for (uint32_t nir = 0; nir < 65536; nir++) {
+        record[36] = (uint8_t)(nir & 255);
+        record[37] = (uint8_t)(nir >> 8);
+        las_point_read(record, sizeof record, with, row, read);
+        shown = shown && told(row, LAS_OK, 0, 0) && read[LAS_POINT_HAS_NIR] == 1 && read[LAS_POINT_NIR] == nir;
+    }
+    CHECK(shown);
+
+    /* missing, whatever number stands beside that, and read back as 0 */
+    fill_bytes(dst, sizeof dst);
+    new_point(point);
+    point[LAS_POINT_HAS_NIR] = 0;
+    las_point_write(point, nothing, 0, with, dst, sizeof dst, row);
+    CHECK(told(row, LAS_OK, 38, 0) && number_at(dst + 36, 2) == 0 && left_bytes(dst + 38, sizeof dst - 38));
+    las_point_read(dst, 38, with, row, read);
+    CHECK(told(row, LAS_OK, 0, 0) && read[LAS_POINT_HAS_NIR] == 1 && read[LAS_POINT_NIR] == 0);
+
+    /* and what was read is written with the same bytes */
+    las_point_write(read, nothing, 0, with, again, sizeof again, row);
+    CHECK(told(row, LAS_OK, 38, 0) && memcmp(again, dst, sizeof again) == 0);
+}
+
 void test_points(void) {
     test_extended_point();
     test_old_point();
+    test_near_infrared();
 
     uint64_t point[LAS_POINT_NUMBERS], none[LAS_POINT_NUMBERS] = {0};
     fill_numbers(point, LAS_POINT_NUMBERS);

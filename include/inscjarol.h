@@ -267,7 +267,7 @@ enum {
     LAS_POINT_RED = 11,
     LAS_POINT_GREEN = 12,
     LAS_POINT_BLUE = 13,
-    LAS_POINT_HAS_NIR = 14, /* near infrared 0 is read as missing */
+    LAS_POINT_HAS_NIR = 14, /* near infrared: 1 in every format that has it, where 0 is a number like any other */
     LAS_POINT_NIR = 15,
     LAS_POINT_HAS_WAVEFORM = 16,
     LAS_POINT_WAVEFORM_INDEX = 17,
@@ -280,8 +280,9 @@ enum {
     LAS_POINT_NUMBERS = 24
 };
 
-/* The point in the first bytes of s, a record of the format. Refuses with LAS_REFUSED_RECORD_LENGTH where the format is
- * longer than 65,535 bytes, then with LAS_REFUSED_SHORT, and leaves the numbers. The value is 0. */
+/* The point in the first bytes of s, a record of the format. What the format has is there, whatever its numbers are, and what
+ * the format lacks is missing. Refuses with LAS_REFUSED_RECORD_LENGTH where the format is longer than 65,535 bytes, then with
+ * LAS_REFUSED_SHORT, and leaves the numbers. The value is 0. */
 void las_point_read(const uint8_t *s, size_t s_len, uint32_t format, uint64_t row[3], uint64_t numbers[24]);
 
 /* Where the extra bytes of that record are in s; none where las_point_read refuses. */
@@ -609,7 +610,8 @@ void las_convert_to_old(const uint8_t *src, size_t src_len, uint8_t format, uint
 
 /* Converts a run of count records of format 1, 3, 4 or 5, each with so many extra bytes, into the new format of the pair
  * (6, 7, 9, 10), at the front of dst, and leaves what lies past it; the value is the count of bytes. Refuses as
- * las_convert_to_old does, but no record. Each becomes what las_strict_upgraded says. */
+ * las_convert_to_old does, but no record. Each becomes what las_strict_upgraded says; the near infrared of format 10, which that
+ * lacks, is 0. */
 void las_convert_to_new(const uint8_t *src, size_t src_len, uint8_t format, uint16_t extra, uint64_t count, uint8_t *dst,
                         size_t dst_len, uint64_t row[3]);
 

@@ -24,7 +24,7 @@ struct Scratch {
 }
 
 /// The format word of the other format of a shape's pair.
-fn target(shape: Shape) -> u32 {
+pub(crate) fn target(shape: Shape) -> u32 {
     let format = match (shape.way, shape.format) {
         (Way::Down, format) => DOWN[usize::from(format - 6)].1,
         (Way::Up, 1) => 6,

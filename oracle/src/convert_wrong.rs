@@ -17,6 +17,8 @@ errors! {
     Class28WithOverlapLetThrough,
     ChannelIgnored,
     NirDroppedSilently,
+    NirZeroRefused,
+    NirOfBluesPlace,
     RankHeld,
     RankHalvesTowardZero,
     RankFractionDropped,
@@ -173,10 +175,19 @@ impl StandIn {
         if self.has(AngleBeforeNir) {
             angle?;
         }
-        let nir = from.parts[2].iter().rev();
-        let nir = nir.fold(0, |n, &byte| n * 256 + u64::from(byte));
-        if nir != 0 && !self.has(NirDroppedSilently) {
-            return Err([20, nir]);
+        let [_, colour, nir, _] = from.parts;
+        let bytes = match self.has(NirOfBluesPlace) && !nir.is_empty() {
+            true => &colour[4..],
+            false => nir,
+        };
+        let found = bytes.iter().rev();
+        let found = found.fold(0, |n, &byte| n * 256 + u64::from(byte));
+        let offends = match self.has(NirZeroRefused) {
+            true => !nir.is_empty(),
+            false => found != 0,
+        };
+        if offends && !self.has(NirDroppedSilently) {
+            return Err([20, found]);
         }
         let one = number + returns * 8 + (b & 0xc0);
         let two = (c + (b & 7) * 32) & 0xff;

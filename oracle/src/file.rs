@@ -108,7 +108,7 @@ const OFTEN: u64 = 100_000;
 
 /// What is counted: the files by the way in which they are made, all of them, and the points that the
 /// walkers gave.
-const COUNTED: [&str; 7] = [
+const COUNTED: [&str; 8] = [
     "files made whole",
     "files with a number at a boundary",
     "files with several, or cut besides",
@@ -116,12 +116,14 @@ const COUNTED: [&str; 7] = [
     "files with bytes changed at random",
     "files in all",
     "points",
+    "points with near infrared 0",
 ];
 const FILES: usize = 5;
 const POINTS: usize = 6;
+const ZEROS: usize = 7;
 
 /// What comparing all calls on files came to.
-type Outcome = report::Outcome<6, 7>;
+type Outcome = report::Outcome<6, 8>;
 
 /// The calls, and the places of their reports.
 const CALLS: [&str; 6] = [
@@ -386,7 +388,8 @@ impl<'a, L: Library> Comparison<'a, L> {
     }
 
     /// Compares a walk to its end and one step past it: each row and all 24 numbers of each point
-    /// with what the Rust reads. Now and then the walker is shown less than the file it was made of.
+    /// with what the Rust reads. A walk that gives near infrared 0, which the Rust reads as none, is by
+    /// rule. Now and then the walker is shown less than the file it was made of.
     fn compare_walk(&mut self, lent: Lent, answer: Answer) {
         let shown = match self.random.below(8) {
             0 => self.random.below(lent.file.len() as u64 + 1) as usize,
@@ -398,12 +401,15 @@ impl<'a, L: Library> Comparison<'a, L> {
             self.outcome.counted.answered(27);
         }
         let mut past = 0;
+        let mut zeros = 0;
         let mut difference = None;
         let mut record = None;
         for k in 0.. {
             let rules = match answer.number {
                 0 if k < self.found.points() && self.found.point_end(k) <= shown as u64 => {
-                    (Answer::result(0u8), self.found.point(lent.file, k))
+                    let (numbers, zero) = self.found.point(lent.file, k);
+                    zeros += u64::from(zero);
+                    (Answer::result(0u8), numbers)
                 }
                 0 => (Answer::refusal(27, self.found.points()), [BEFORE; 24]),
                 _ => (answer, [BEFORE; 24]),
@@ -446,6 +452,8 @@ impl<'a, L: Library> Comparison<'a, L> {
                 "shown {shown} bytes, step {k}, {rules}, port {row}, first differing number {at:?}"
             )
         });
+        self.outcome.reports[WALK].by_rule(zeros > 0);
+        self.outcome.counted.counts[ZEROS] += zeros;
     }
 
     /// Compares the row and the whole destination, which may be too short, enough, or more.
@@ -586,11 +594,11 @@ fn compare_described(library: &impl Library) -> Report {
 
 /// What a step from a place comes to, whatever the place holds: the row, the point and the place after.
 /// "A walker with an overlong format or a next record outside its file answers 27 too, with the count it
-/// holds." A refused one repeats its refusal.
-fn step(file: &[u8], place: Place) -> (Row, PointNumbers, Place) {
+/// holds." A refused one repeats its refusal. And whether the point has near infrared 0.
+fn step(file: &[u8], place: Place) -> ((Row, PointNumbers, Place), bool) {
     let [word, at, left, count, number, value, record] = place;
     if number != 0 {
-        return ([number, value, record], [BEFORE; 24], place);
+        return (([number, value, record], [BEFORE; 24], place), false);
     }
     // a refusal leaves the place as it is; a step keeps no bits that mean nothing
     let format = format::format(word as u32);
@@ -598,12 +606,13 @@ fn step(file: &[u8], place: Place) -> (Row, PointNumbers, Place) {
     let length = record_len(word);
     let end = u128::from(at) + length as u128;
     if left == 0 || length > LONGEST || end > file.len() as u128 {
-        return ([27, count, 0], [BEFORE; 24], place);
+        return (([27, count, 0], [BEFORE; 24], place), false);
     }
     match Point::read_from(&file[at as usize..], &format) {
         Ok(point) => {
             let moved = [word.into(), end as u64, left - 1, count, 0, 0, 0];
-            ([0; 3], point::numbers(&point), moved)
+            let (numbers, zero) = point::numbers_read(&format, &point);
+            (([0; 3], numbers, moved), zero)
         }
         Err(error) => panic!("the Rust does not read a whole record: {error}"),
     }
@@ -616,7 +625,7 @@ fn compare_places(library: &impl Library) -> Report {
     let mut file = vec![0; 2 * LONGEST];
     Lcg::new(0).fill(&mut file);
     let mut compare = |place: Place| {
-        let rules = step(&file, place);
+        let (rules, zero) = step(&file, place);
         let record = match rules.0 {
             [0, ..] => [place[1], rules.2[1] - place[1]],
             _ => [0, 0],
@@ -629,6 +638,7 @@ fn compare_places(library: &impl Library) -> Report {
             let (told, _, moved) = rules;
             format!("{place:?}: {told:?} {moved:?}, port {row:?} {after:?} {span:?}")
         });
+        report.by_rule(zero);
     };
 
     let end = file.len() as u64;

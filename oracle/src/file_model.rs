@@ -2,8 +2,8 @@
 //! parts they are, what their points hold and what is written back.
 //!
 //! The Rust has no such calls, so that the port is compared with this. It shares nothing with the
-//! port but the text, and only the points are the Rust's own. All numbers are taken as 128 bits, in
-//! which no sum or product of theirs wraps.
+//! port but the text, and only the points are the Rust's own, but for near infrared 0. All numbers are
+//! taken as 128 bits, in which no sum or product of theirs wraps.
 
 use crate::{
     answer::Answer,
@@ -287,9 +287,10 @@ impl Found {
         .map(|n| n as u64)
     }
 
-    /// What the Rust reads of the `k`-th point record, counted from 0, of the accepted file that was
-    /// checked last. The record length that goes beyond the format's is extra bytes.
-    pub fn point(&self, file: &[u8], k: u64) -> PointNumbers {
+    /// What is to be read of the `k`-th point record, counted from 0, of the accepted file that was
+    /// checked last: what the Rust reads, or near infrared 0, and then true. The record length that
+    /// goes beyond the format's is extra bytes.
+    pub fn point(&self, file: &[u8], k: u64) -> (PointNumbers, bool) {
         let mut format = match Format::new(self.format) {
             Ok(format) => format,
             Err(error) => panic!("the Rust has no format {}: {error}", self.format),
@@ -298,7 +299,7 @@ impl Found {
         let at = self.point_offset + u128::from(k) * self.record_length;
         let record = &file[at as usize..][..self.record_length as usize];
         match Point::read_from(record, &format) {
-            Ok(point) => point::numbers(&point),
+            Ok(point) => point::numbers_read(&format, &point),
             Err(error) => panic!("the Rust does not read a whole record: {error}"),
         }
     }

@@ -8,7 +8,7 @@ use crate::{
     file::Library,
     file_model::{EVLR, GAP, HEADER, POINTS, Part, VLR},
     format::{self, LONGEST},
-    point,
+    point::{self, HAS_NIR, NIR},
     records::record_len,
 };
 use las::{point::Format, raw::Point};
@@ -63,6 +63,9 @@ errors! {
     RecordThoughNotShown,
     RecordThoughRefused,
     NumbersClearedAtEnd,
+    NirZeroMissing,
+    NirInEveryFormat,
+    NirOfBluesPlace,
     HalfEvlrPairKept,
     WholeEvlrPairCleared,
     TrailingBytesNotCopied,
@@ -495,6 +498,14 @@ impl Library for StandIn {
         bytes.resize(bytes.len().max(short as usize), 0);
         let point = Point::read_from(&bytes[..], &bare).expect("a whole record");
         *numbers = point::numbers(&point);
+        let missing = match point.nir {
+            None => !format.has_nir || self.has(NirZeroMissing),
+            Some(_) => false,
+        };
+        numbers[HAS_NIR] = u64::from(!missing || self.has(NirInEveryFormat));
+        if format.has_nir && self.has(NirOfBluesPlace) {
+            numbers[NIR] = numbers[NIR - 2];
+        }
         *row = [0; 3];
         place[0] = format::word(format).into();
         place[1] = at.wrapping_add(step);

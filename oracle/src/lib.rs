@@ -37,6 +37,8 @@ pub mod flags;
 pub mod format;
 pub mod header;
 pub mod listings;
+pub mod nir;
+pub mod nir_wrong;
 pub mod point;
 pub mod records;
 pub mod replay;

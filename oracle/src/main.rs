@@ -1,44 +1,68 @@
 //! Runs every comparison and says whether nothing differed.
 
 use oracle::{
-    angle, append, convert, convert_plain, file, flags, format, header, listings, point, replay,
-    replay_append, replay_records, report::Tally, strict, vlr,
+    angle, append, convert, convert_plain, file, flags, format, header, listings, nir, point,
+    replay, replay_append, replay_records, report::Tally, strict, vlr,
 };
 use std::{env, fs, io, path::Path, process::ExitCode};
 
-/// Compares everything. `crates` is where the programs lie that replay the lists.
-fn compare(crates: &Path, write: bool) -> io::Result<bool> {
+/// What there is to compare, by the name that it is asked for by.
+const SUBJECTS: [&str; 13] = [
+    "format", "flags", "angle", "point", "vlr", "header", "file", "append", "strict", "convert",
+    "nir", "plain", "lists",
+];
+
+/// Compares the subjects that are asked for, or everything where none is. `crates` is where the programs lie that replay the lists.
+fn compare(crates: &Path, write: bool, asked: &[String]) -> io::Result<bool> {
     let mut tally = Tally::default();
-    format::compare(&mut tally);
-    flags::compare(&mut tally);
-    angle::compare(&mut tally);
-    point::compare(&mut tally);
-    vlr::compare(&mut tally);
-    header::compare(&mut tally);
-    file::compare(&mut tally);
-    append::compare(&mut tally);
-    strict::compare(&mut tally);
-    convert::compare(&mut tally);
-    convert_plain::compare(&mut tally, &crates.join("../docs/DIFFERENCES.md"))?;
-    replay::compare(&mut tally, &crates.join("replay"), write)?;
-    replay_records::compare(&mut tally, &crates.join("replay_records"), write)?;
-    listings::compare(&mut tally, &crates.join("listings"), write)?;
-    replay_append::compare(&mut tally, &crates.join("../c/replay"), write)?;
-    tally.covers(&fs::read_to_string(crates.join("../include/inscjarol.h"))?);
+    let about = |subject: &str| asked.is_empty() || asked.iter().any(|word| word == subject);
+    for (subject, compare) in [
+        ("format", format::compare as fn(&mut Tally)),
+        ("flags", flags::compare),
+        ("angle", angle::compare),
+        ("point", point::compare),
+        ("vlr", vlr::compare),
+        ("header", header::compare),
+        ("file", file::compare),
+        ("append", append::compare),
+        ("strict", strict::compare),
+        ("convert", convert::compare),
+        ("nir", nir::compare),
+    ] {
+        if about(subject) {
+            compare(&mut tally);
+        }
+    }
+    if about("plain") {
+        convert_plain::compare(&mut tally, &crates.join("../docs/DIFFERENCES.md"))?;
+    }
+    if about("lists") {
+        replay::compare(&mut tally, &crates.join("replay"), write)?;
+        replay_records::compare(&mut tally, &crates.join("replay_records"), write)?;
+        listings::compare(&mut tally, &crates.join("listings"), write)?;
+        replay_append::compare(&mut tally, &crates.join("../c/replay"), write)?;
+    }
+    if asked.is_empty() {
+        tally.covers(&fs::read_to_string(crates.join("../include/inscjarol.h"))?);
+    } else {
+        println!("only of {}", asked.join(", "));
+    }
     Ok(tally.agreed())
 }
 
 fn main() -> ExitCode {
-    let args: Vec<String> = env::args().skip(1).collect();
-    let (crates, write) = match args.iter().map(String::as_str).collect::<Vec<_>>()[..] {
-        [crates] => (crates, false),
-        [crates, "--write-replay"] => (crates, true),
-        _ => {
-            eprintln!("usage: oracle CRATES [--write-replay]");
-            return ExitCode::from(2);
-        }
+    let mut words: Vec<String> = env::args().skip(1).collect();
+    let write = words.iter().any(|word| word == "--write-replay");
+    words.retain(|word| word != "--write-replay");
+    let unknown = words.iter().skip(1).find(|word| !SUBJECTS.contains(&word.as_str()));
+    let (Some(crates), None) = (words.first(), unknown) else {
+        eprintln!(
+            "usage: oracle CRATES [--write-replay] [SUBJECT..], of {}",
+            SUBJECTS.join(", ")
+        );
+        return ExitCode::from(2);
     };
-    match compare(Path::new(crates), write) {
+    match compare(Path::new(crates), write, &words[1..]) {
         Ok(true) => ExitCode::SUCCESS,
         Ok(false) => ExitCode::FAILURE,
         Err(error) => {

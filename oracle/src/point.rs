@@ -12,6 +12,7 @@ use crate::{
 };
 use las::{
     Color, Error,
+    point::Format,
     raw::{Point, point::Waveform},
 };
 use std::io::ErrorKind;
@@ -20,6 +21,10 @@ use std::io::ErrorKind;
 /// nothing. No number of a point has all these bits.
 const BEFORE: u64 = 0xa5a5_a5a5_a5a5_a5a5;
 const BEFORE_BYTE: u8 = 0xa5;
+
+/// Where the numbers say whether near infrared is there, and what it is.
+pub(crate) const HAS_NIR: usize = 14;
+pub(crate) const NIR: usize = 15;
 
 /// The 24 numbers that stand for a point. What is missing is zeros.
 // Inlined, as is `point`, so that bench/ can time the Rust at its best.
@@ -81,6 +86,19 @@ pub fn numbers(point: &Point) -> PointNumbers {
     ]
 }
 
+/// The numbers that are to be read of a point of a format: those of what the Rust read, but that near
+/// infrared is there where the format has it. The Rust reads 0 as none there, and document 02's No. 5
+/// says: "Reading a format 8 or 10 record must give zero as a value; missing remains for formats
+/// without the field." And whether that is what the point was held to.
+pub(crate) fn numbers_read(format: &Format, point: &Point) -> (PointNumbers, bool) {
+    let mut numbers = numbers(point);
+    let zero = format.has_nir && point.nir.is_none();
+    if zero {
+        numbers[HAS_NIR] = 1;
+    }
+    (numbers, zero)
+}
+
 /// The point that 24 numbers stand for: of a number that is too wide the low bits count, and any
 /// number but 0 says that a part is there.
 #[inline]
@@ -97,7 +115,7 @@ pub fn point(n: &PointNumbers, extra: &[u8]) -> Point {
         point_source_id: n[7] as u16,
         gps_time: (n[8] != 0).then(|| f64::from_bits(n[9])),
         color: (n[10] != 0).then(|| Color::new(n[11] as u16, n[12] as u16, n[13] as u16)),
-        nir: (n[14] != 0).then_some(n[15] as u16),
+        nir: (n[HAS_NIR] != 0).then_some(n[NIR] as u16),
         waveform: (n[16] != 0).then(|| Waveform {
             wave_packet_descriptor_index: n[17] as u8,
             byte_offset_to_waveform_data: n[18],
@@ -133,11 +151,15 @@ pub(crate) fn rust_read(word: u32, bytes: &[u8]) -> Result<Point, Answer> {
 /// Compares a call on one record of a format word.
 type Compare = fn(&mut Report, u32, &[u8]);
 
-/// Compares a read: the row and all 24 numbers, which a refusal leaves as they were.
+/// Compares a read: the row and all 24 numbers, which a refusal leaves as they were. Near infrared 0,
+/// which the Rust reads as none, is by rule.
 fn read(report: &mut Report, word: u32, bytes: &[u8]) {
-    let rust = match rust_read(word, bytes) {
-        Ok(point) => (Answer::result(0u8), numbers(&point)),
-        Err(refusal) => (refusal, [BEFORE; 24]),
+    let (rust, zero) = match rust_read(word, bytes) {
+        Ok(point) => {
+            let (numbers, zero) = numbers_read(&format::format(word), &point);
+            ((Answer::result(0u8), numbers), zero)
+        }
+        Err(refusal) => ((refusal, [BEFORE; 24]), false),
     };
     let mut numbers = [BEFORE; 24];
     let row = capi::row(|row| capi::las_point_read(bytes, word, row, &mut numbers));
@@ -145,7 +167,7 @@ fn read(report: &mut Report, word: u32, bytes: &[u8]) {
         let bytes = shown(bytes);
         format!("({word:#010x}, {bytes}): Rust {rust:x?}, port {row:x?} {numbers:x?}")
     });
-    report.by_rule(rust.0.by_rule());
+    report.by_rule(rust.0.by_rule() || zero);
 }
 
 /// Compares the place and the count of the extra bytes, and so the bytes themselves. Where there are
@@ -257,7 +279,7 @@ pub(crate) fn nth_numbers(i: u64) -> PointNumbers {
         1 => n[5] & !0xffff_ffff | u64::from(angle::rank(c as i8)),
         _ => n[5] & !0xffff_0000 | 1 << 16,
     };
-    for has in [8, 10, 14, 16] {
+    for has in [8, 10, HAS_NIR, 16] {
         n[has] = match lcg.word() % 4 {
             0 => n[has],
             1 => 1,

@@ -8,7 +8,8 @@
 //!
 //! Every line is the Rust's, but for these, of which the Rust says only that it fails, and must
 //! fail: the value of 1, bytes wanted in all, and 22, no room. There document 01's rule is written
-//! out in the modules `point`, `vlr` and `header`. What the Rust can't be asked is not in the list:
+//! out in the modules `point`, `vlr` and `header`. And near infrared 0 is read as a number, by document
+//! 02's No. 5, where the Rust has none. What the Rust can't be asked is not in the list:
 //! versions outside 1.0 to 1.4, overlong formats, extra bytes or data of another count than stated,
 //! lengths that no memory holds, ends of points of 2^64 or more.
 
@@ -65,6 +66,8 @@ const F32: [u32; 8] = [
 #[derive(Default)]
 struct List {
     asked: HashSet<Vec<u8>>,
+    /// Points whose near infrared is 0, which the Rust reads as none.
+    zeros: u64,
     stdin: Vec<u8>,
     stdout: String,
 }
@@ -125,13 +128,15 @@ impl List {
             Ok(point) => point,
             Err(refusal) => return self.line("read", refusal, &[], &[]),
         };
-        let numbers = &point::numbers(&point);
+        let (numbers, zero) = point::numbers_read(&format::format(from), &point);
+        self.zeros += u64::from(zero);
         let read = Answer::result(0u8);
-        self.line("read", read, numbers, &[&point.extra_bytes]);
+        self.line("read", read, &numbers, &[&point.extra_bytes]);
+        // Of near infrared 0 the Rust writes what it read, which is none, and the port 0: the same bits.
         let writing = Writing {
             word: to,
             point: &point,
-            numbers,
+            numbers: &numbers,
             room,
         };
         let mut dst = Vec::new();
@@ -230,7 +235,11 @@ pub fn compare(tally: &mut Tally, folder: &Path, write: bool) -> io::Result<()> 
     headers(&mut list);
     header_fields(&mut list);
     header_ends(&mut list);
-    println!("replay list of records: {}", list.asked.len());
+    println!(
+        "replay list of records: {}, {} of them points with near infrared 0, by rule",
+        list.asked.len(),
+        list.zeros
+    );
     replay::keep(tally, folder, write, list.stdin, list.stdout)
 }
 

@@ -49,7 +49,7 @@ impl Report {
     }
 
     /// Says whether the Rust was not asked about the input just counted, or not for all of it: the
-    /// port was held to document 01's rule there, as this harness states it.
+    /// port was held to document 01's or 02's rule there, as this harness states it.
     pub fn by_rule(&mut self, rule: bool) {
         self.by_rule += u64::from(rule);
     }

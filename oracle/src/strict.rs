@@ -7,7 +7,7 @@ use crate::{
     call::noise,
     capi::{self, PointNumbers},
     convert_model, flags,
-    point::{self, any_angle, nth_numbers},
+    point::{self, HAS_NIR, NIR, any_angle, nth_numbers},
     report::{Report, Tally},
 };
 use las::{
@@ -29,7 +29,7 @@ fn class(flags: Flags) -> u8 {
 /// The first field that an old record can't show: "return number above 7; number of returns above 7;
 /// class above 31; channel above 0; overlap set and class not 12, or clear and class 12 or 28; NIR not
 /// 0; rank before holding outside −128 to 127".
-fn offence(point: &Point) -> Answer {
+pub(crate) fn offence(point: &Point) -> Answer {
     let flags = point.flags;
     let (number, returns) = (flags.return_number(), flags.number_of_returns());
     let (class, channel) = (class(flags), flags.scanner_channel());
@@ -55,7 +55,7 @@ fn offence(point: &Point) -> Answer {
 
 /// An old point made new: "class kept, overlap set exactly for class 12, channel and NIR 0, the other
 /// flags moved". One with three-byte flags stays.
-fn upgraded(mut point: Point) -> Point {
+pub(crate) fn upgraded(mut point: Point) -> Point {
     let old = point.flags;
     if let Flags::TwoByte(..) = old {
         let class = class(old);
@@ -103,7 +103,7 @@ fn with(flags: u32, angle: u32, nir: Option<u16>) -> PointNumbers {
     let mut numbers = [0; 24];
     (numbers[4], numbers[5]) = (flags.into(), angle.into());
     if let Some(nir) = nir {
-        (numbers[14], numbers[15]) = (1, nir.into());
+        (numbers[HAS_NIR], numbers[NIR]) = (1, nir.into());
     }
     numbers
 }

@@ -167,8 +167,21 @@ mod tests {
     }
 
     #[test]
+    fn near_infrared_0_goes_and_is_there_again() {
+        let [missing, zero] =
+            [None, Some(0)].map(|nir| record(10, ThreeByte(0x11, 0, 2), ScanAngle::Scaled(0), nir));
+        assert_eq!(missing, zero);
+        let old = run(10, &zero, 1).to_old().unwrap();
+        let [five, ten] = [5, 10].map(|code| Format::new(code).unwrap().with_extra_bytes(1));
+        assert_eq!(Point::read(&old, five).unwrap().nir, None);
+        let new = run(5, &old, 1).to_new().unwrap();
+        assert_eq!(new, zero);
+        assert_eq!(Point::read(&new, ten).unwrap().nir, Some(0));
+    }
+
+    #[test]
     fn the_first_record_that_does_not_fit_is_named() {
-        let mut records = record(8, ThreeByte(0x11, 0, 2), ScanAngle::Scaled(0), None);
+        let mut records = record(8, ThreeByte(0x11, 0, 2), ScanAngle::Scaled(0), Some(0));
         records.extend(record(
             8,
             ThreeByte(0x11, 0, 2),

@@ -70,7 +70,7 @@ pub struct Point<'a> {
     pub color: Option<Color>,
     /// Its waveform, where the format has that.
     pub waveform: Option<Waveform>,
-    /// Near infrared, where the format has that and it isn't 0.
+    /// Near infrared, where the format has that: 0 is a number like any other, and none is written as 0.
     pub nir: Option<u16>,
     /// The record's extra bytes, as that part of the bytes that were read.
     pub extra_bytes: &'a [u8],
@@ -278,15 +278,24 @@ mod tests {
     }
 
     #[test]
-    fn near_infrared_0_is_missing() {
-        let format = Format::new(8).unwrap();
-        let point = Point {
-            flags: Flags::ThreeByte(0x11, 0, 2),
-            nir: Some(0),
-            ..Point::default()
-        };
-        let record = point.to_vec(format).unwrap();
-        assert_eq!(Point::read(&record, format).unwrap().nir, None);
+    fn near_infrared_0_is_a_number() {
+        for code in 0..=10 {
+            let format = Format::new(code).unwrap();
+            let point = Point {
+                extra_bytes: b"",
+                ..telling()
+            };
+            for nir in [None, Some(0), Some(1), Some(u16::MAX)] {
+                let record = Point { nir, ..point }.to_vec(format).unwrap();
+                let read = Point::read(&record, format).unwrap();
+                let stored = nir.unwrap_or(0);
+                assert_eq!(read.nir, format.has_nir.then_some(stored), "{code}");
+                assert_eq!(read.to_vec(format).unwrap(), record);
+                // Only a number that isn't 0 is too much for an old reader.
+                let lost = read.check_old().err().map(|refusal| refusal.value());
+                assert_eq!(lost, read.nir.filter(|&nir| nir != 0).map(u64::from));
+            }
+        }
     }
 
     #[test]
@@ -304,9 +313,11 @@ mod tests {
         let old = Point {
             flags: Flags::TwoByte(0x51, 0x22),
             scan_angle: ScanAngle::Rank(3),
+            nir: Some(0),
             ..ground
         };
         let new = old.upgraded();
+        assert_eq!(new.nir, None);
         assert!(matches!(new.flags, Flags::ThreeByte(0x21, 0x41, 0x02)));
         assert!(matches!(new.scan_angle, ScanAngle::Scaled(500)));
         assert_eq!(new.extra_bytes, b"xy");

@@ -199,6 +199,30 @@ fn everything_of_a_rich_file() {
 }
 
 #[test]
+fn near_infrared_of_every_point() {
+    let stored = [0, 1, u16::MAX, 0, 256];
+    for code in 0..=10 {
+        let mut bytes = rich(code, 2);
+        let file = File::check(&bytes).unwrap();
+        let (format, points) = (file.format(), file.header().offset_to_point_data as usize);
+        let length = usize::from(format.len().unwrap());
+        for (record, nir) in bytes[points..].chunks_exact_mut(length).zip(stored) {
+            let point = Point::read(record, format).unwrap();
+            let written = Point {
+                nir: Some(nir),
+                ..point
+            };
+            let written = written.to_vec(format).unwrap();
+            record.copy_from_slice(&written);
+        }
+        let file = File::check(&bytes).unwrap();
+        let shown: Vec<Option<u16>> = file.points().map(|point| point.nir).collect();
+        assert_eq!(shown, stored.map(|nir| format.has_nir.then_some(nir)));
+        assert_eq!(file.rewritten().unwrap(), bytes);
+    }
+}
+
+#[test]
 fn going_to_a_point_at_once() {
     let bytes = rich(7, 5);
     let file = File::check(&bytes).unwrap();

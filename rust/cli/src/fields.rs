@@ -68,7 +68,7 @@ const FIELDS: &[Standard] = &[
     Standard("red", &[], "colour", COLOR, whole(|p| Some(p.color?.red.into()))),
     Standard("green", &[], "colour", COLOR, whole(|p| Some(p.color?.green.into()))),
     Standard("blue", &[], "colour", COLOR, whole(|p| Some(p.color?.blue.into()))),
-    Standard("nir", &["near_infrared"], "near infrared", NIR, whole(|p| Some(p.nir?.into()))),
+    Standard("nir", &["near_infrared"], "near infrared, of which 0 is a number too", NIR, whole(|p| Some(p.nir?.into()))),
     Standard("wave_index", &[], "which wave packet descriptor", WAVEFORM, whole(|p| Some(p.waveform?.wave_packet_descriptor_index.into()))),
     Standard("wave_offset", &[], "first byte of the wave packet", WAVEFORM, Get::Large(|p| Some(p.waveform?.byte_offset_to_waveform_data))),
     Standard("wave_size", &[], "bytes of the wave packet", WAVEFORM, whole(|p| Some(p.waveform?.waveform_packet_size_in_bytes.into()))),

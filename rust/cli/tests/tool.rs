@@ -904,6 +904,75 @@ fn no_key_is_there_twice() {
     assert_eq!(status, Some(2));
 }
 
+/// A file of LAS 1.4 with three points of a format, which have these numbers as near infrared where the format has that.
+fn infrared(code: u8, stored: [u16; 3]) -> Vec<u8> {
+    let format = Format::new(code).unwrap();
+    let mut header = Header::new(Version { major: 1, minor: 4 }).unwrap();
+    header.point_data_record_format = code;
+    header.point_data_record_length = format.len().unwrap();
+    header.number_of_point_records = 3;
+    let mut bytes = header.to_vec(&[]).unwrap();
+    for nir in stored {
+        let point = Point {
+            nir: Some(nir),
+            ..Point::default()
+        };
+        bytes.extend(point.to_vec(format).unwrap());
+    }
+    bytes
+}
+
+#[test]
+fn near_infrared_0_is_shown() {
+    let folder = Folder::new("infrared");
+    let shown = |code: u8, stored: [u16; 3], options: &[&str]| {
+        let path = folder.put(&format!("{code}.las"), &infrared(code, stored));
+        let (out, err, status) = on(options, &path);
+        assert_eq!((err.as_str(), status), ("", Some(0)));
+        out
+    };
+    let csv = ["points", "--fields", "nir,intensity"];
+    let json = ["points", "--json", "--fields", "nir,intensity"];
+    let csv_of_all = ["points", "--fields", "all"];
+    let json_of_all = ["points", "--json", "--fields", "all"];
+    for code in [8, 10] {
+        let stored = [0, 1, 65_535];
+        assert_eq!(
+            shown(code, stored, &csv),
+            "nir,intensity\n0,0\n1,0\n65535,0\n"
+        );
+        assert_eq!(
+            shown(code, stored, &json),
+            "{\"nir\":0,\"intensity\":0}\n{\"nir\":1,\"intensity\":0}\n{\"nir\":65535,\"intensity\":0}\n"
+        );
+        let out = shown(code, stored, &csv_of_all);
+        let column = out.split([',', '\n']).position(|name| name == "nir");
+        let values = out.lines().map(|line| line.split(',').nth(column.unwrap()));
+        assert!(values.eq([Some("nir"), Some("0"), Some("1"), Some("65535")]));
+        let out = shown(code, stored, &json_of_all);
+        assert!(out.lines().next().unwrap().contains("\"nir\":0"), "{out}");
+        // That there is a sensor is the format's word, also where it saw nothing.
+        let out = shown(code, [0; 3], &["info"]);
+        assert!(out.contains("GPS time, colour, near infrared"), "{out}");
+    }
+    // A format without the field has no number of it, and no column unless that is asked for.
+    assert_eq!(shown(7, [0; 3], &csv), "nir,intensity\n,0\n,0\n,0\n");
+    assert_eq!(
+        shown(7, [0; 3], &json),
+        "{\"nir\":null,\"intensity\":0}\n".repeat(3)
+    );
+    assert!(!shown(7, [0; 3], &csv_of_all).contains("nir"));
+    assert!(!shown(7, [0; 3], &json_of_all).contains("nir"));
+    assert!(!shown(7, [0; 3], &["info"]).contains("near infrared"));
+    // Rewritten, the bytes are the same.
+    for code in [7, 8, 10] {
+        let from = folder.put("from.las", &infrared(code, [0, 1, 65_535]));
+        let to = folder.join(&format!("to-{code}.las"));
+        assert_eq!(rewrite(&from, &to, &[]).status.code(), Some(0));
+        assert_eq!(fs::read(&to).unwrap(), fs::read(&from).unwrap());
+    }
+}
+
 #[test]
 fn fields_by_other_names() {
     let (out, _, _) = on(
