@@ -54,7 +54,10 @@ fn main() -> ExitCode {
     let mut words: Vec<String> = env::args().skip(1).collect();
     let write = words.iter().any(|word| word == "--write-replay");
     words.retain(|word| word != "--write-replay");
-    let unknown = words.iter().skip(1).find(|word| !SUBJECTS.contains(&word.as_str()));
+    let unknown = words
+        .iter()
+        .skip(1)
+        .find(|word| !SUBJECTS.contains(&word.as_str()));
     let (Some(crates), None) = (words.first(), unknown) else {
         eprintln!(
             "usage: oracle CRATES [--write-replay] [SUBJECT..], of {}",
