@@ -10,8 +10,9 @@
 // After `read` come the boundary's numbers in decimal, then its texts and last the extra bytes, the data or the padding;
 // after `write` the bytes written. Texts and bytes stand as an x and then two hexadecimal digits for each byte.
 //
-// Both files were written by the harness in oracle/ from the Rust's own answers (`oracle/run FOLDER --write-replay`), never
-// from this program's; oracle/src/replay_records.rs says how the records are chosen.
+// Both files were written by the harness in oracle/ from the Rust's own answers (`oracle/run FOLDER --write-replay`), but for near
+// infrared 0, which the Rust reads as none and document 02 as a number; never from this program's. oracle/src/replay_records.rs says
+// how the records are chosen.
 use libc::STDIN_FILENO;
 use libc::STDOUT_FILENO;
 
