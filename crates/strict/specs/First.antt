@@ -3,24 +3,23 @@ use Prim.Native.Nat.{ℕ, _≤_, _<_}
 use mathlib.Core.Path.{_≡_, refl, ap, sym, subst, _∙_}
 use mathlib.Core.Bool.{false}
 use native.Mathlib.Omega.{arith}
-use borrow.Author.Tests.{ltb-true, ltb-false, eqb-true, eqb-false}
+use borrow.Author.Tests.{ltb-true, ltb-false, eqb-false}
 use lib.Dec.{eqb, ltb}
 use mir.Syntax.{w16}
 use mir.Val.{ofZ}
 use Rattle.refusal.specs.declared.Refusal.{Refusal}
 use Rattle.refusal.specs.declared.Refusal.the-variants.{ReturnNumber, NumberOfReturns, Class, Channel, Overlap, Nir, Angle}
 use Rattle.flags.specs.Readings.{returnNumberOf, numberOfReturnsOf, classOf, channelOf, overlapOf}
-use Rattle.angle.specs.declared.ScanAngle.{ScanAngle}
-use Rattle.angle.specs.declared.ScanAngle.the-variants.{Rank, Scaled}
-use Rattle.angle.specs.Angle.{nearestRank, toScaled}
+use Rattle.angle.specs.Angle.{toScaled}
 use Rattle.point.specs.declared.MaybeNir.{MaybeNir}
 use Rattle.point.specs.declared.MaybeNir.the-variants.{Some, None}
 use Rattle.point.specs.declared.Point.{Point}
 use Rattle.strict.specs.declared.Fit.{Fit}
 use Rattle.strict.specs.declared.Fit.the-variants.{Fits, Refused}
-use Rattle.strict.specs.Fit.{firstOf, overlapGoes, readingsFit, flagsFitOf, nirFitOf, rankFits, scaledFitOf, angleFitOf, fitOf}
-use Rattle.strict.specs.Shown.{exactRank, nirNumber}
-use Rattle.strict.specs.Laws.{not-refused, only-fits, Fitting, fits-fitting, past, last}
+use Rattle.strict.specs.Fit.{firstOf, overlapGoes, readingsFit, flagsFitOf, nirFitOf, rankFits, exactRank, angleFitOf, fitOf}
+use Rattle.strict.specs.Shown.{nirNumber}
+use Rattle.strict.specs.Laws.{not-refused, Fitting, fits-fitting, past, last}
+use Rattle.strict.specs.Whole.{nir-none}
 
 -- every reading of the flags fits
 abbrev pub FlagsFit : Point → Type 0
@@ -28,7 +27,7 @@ FlagsFit p =
     Fitting (returnNumberOf (p .flags)) (numberOfReturnsOf (p .flags)) (classOf (p .flags)) (channelOf (p .flags)) (overlapOf (p .flags))
 
 -- "return number above 7; number of returns above 7; class above 31; channel above 0; overlap set and class not 12, or clear and class 12
--- or 28; NIR not 0; rank before holding outside −128 to 127": the field that is named does not fit, and all before it do
+-- or 28; NIR not 0; rank before holding outside" −90 to 90 (document 02, No. 2): the field that is named does not fit, and all before it do
 pub data FirstField (p : Point) : Refusal → Type 0 where
   at-return-number : 7 < returnNumberOf (p .flags) → FirstField p (ReturnNumber (returnNumberOf (p .flags)))
   at-number-of-returns :
@@ -71,15 +70,9 @@ module _ (p : Point) (why : Refusal) where
         last (FirstField p) why (eqb n 0) (Nir n) (λ t. subst (λ (m : ℕ). FirstField p (Nir m)) same (at-nir fitting (λ z. eqb-false n 0 t (sym same ∙ z)))) e
     nir-first None is e = not-refused why (sym e)
 
-    no-nir : (n : MaybeNir) → p .nir ≡ n → nirFitOf n ≡ Fits → nirNumber (p .nir) ≡ 0
-    no-nir (Some n) is e = ap nirNumber is ∙ eqb-true n 0 (only-fits (eqb n 0) _ e)
-    no-nir None is e = ap nirNumber is
-
-    angle-first : nirFitOf (p .nir) ≡ Fits → (a : ScanAngle) → p .«scan_angle» ≡ a → angleFitOf a ≡ Refused why → FirstField p why
-    unfolding scaledFitOf
-    angle-first none (Rank r) is e = not-refused why (sym e)
-    angle-first none (Scaled n) is e =
-        last (FirstField p) why (rankFits (nearestRank n)) _ (λ t. subst (λ (a : ScanAngle). FirstField p (Angle (ofZ w16 (toScaled a)))) is (at-angle fitting (no-nir (p .nir) refl none) (ap (λ (a : ScanAngle). rankFits (exactRank a)) is ∙ t))) e
+    angle-first : nirFitOf (p .nir) ≡ Fits → angleFitOf (p .«scan_angle») ≡ Refused why → FirstField p why
+    unfolding angleFitOf
+    angle-first none = last (FirstField p) why (rankFits (exactRank (p .«scan_angle»))) _ (at-angle fitting (nir-none (p .nir) none))
 
   pub first-named : fitOf p ≡ Refused why → FirstField p why
   unfolding fitOf
@@ -88,4 +81,4 @@ module _ (p : Point) (why : Refusal) where
       go : (x y : Fit) → flagsFitOf (p .flags) ≡ x → nirFitOf (p .nir) ≡ y → firstOf x (firstOf y (angleFitOf (p .«scan_angle»))) ≡ Refused why → FirstField p why
       go (Refused r) y fx fy e = flags-first (fx ∙ e)
       go Fits (Refused r) fx fy e = nir-first fx (p .nir) refl (fy ∙ e)
-      go Fits Fits fx fy e = angle-first fx fy (p .«scan_angle») refl e
+      go Fits Fits fx fy e = angle-first fx fy e

@@ -1,6 +1,6 @@
 -- Document 01, "Strict conversion", for one record: "Then records in turn, each by: return number above 7; number of returns
 -- above 7; class above 31; channel above 0; overlap set and class not 12, or clear and class 12 or 28; NIR not 0; rank before
--- holding outside −128 to 127."
+-- holding outside −128 to 127." Document 02, No. 2, amends the last limits: "the standard's rank runs from −90 to 90".
 use Prim.Native.Nat.{ℕ}
 use mathlib.Core.Bool.{Bool, true, false, not, cond, _&&_}
 use lib.Dec.{eqb, ltb}
@@ -13,7 +13,7 @@ use Rattle.flags.specs.declared.Flags.{Flags}
 use Rattle.flags.specs.Readings.{returnNumberOf, numberOfReturnsOf, classOf, channelOf, overlapOf}
 use Rattle.angle.specs.declared.ScanAngle.{ScanAngle}
 use Rattle.angle.specs.declared.ScanAngle.the-variants.{Rank, Scaled}
-use Rattle.angle.specs.Angle.{nearestRank}
+use Rattle.angle.specs.Angle.{nearestRank, toScaled}
 use Rattle.point.specs.declared.MaybeNir.{MaybeNir}
 use Rattle.point.specs.declared.MaybeNir.the-variants.{Some, None}
 use Rattle.point.specs.declared.Point.{Point}
@@ -47,17 +47,18 @@ abbrev pub nirFitOf : MaybeNir → Fit
 nirFitOf (Some n) = cond (eqb n 0) Fits (Refused (Nir n))
 nirFitOf None = Fits
 
--- "rank before holding outside −128 to 127" does not fit
+-- "the standard's rank runs from −90 to 90": another does not fit
 unfoldable pub rankFits : ℤ → Bool
-rankFits z = not (ltZ z (negℤ (pos 128))) && not (ltZ (pos 127) z)
+rankFits z = not (ltZ z (negℤ (pos 90))) && not (ltZ (pos 90) z)
 
-unfoldable pub scaledFitOf : ℤ → Fit
-scaledFitOf n = cond (rankFits (nearestRank n)) Fits (Refused (Angle (ofZ w16 n)))
+-- "scan angle to the nearest whole degree with halves away from zero", in ℤ: the "rank before holding"
+abbrev pub exactRank : ScanAngle → ℤ
+exactRank (Rank r) = r
+exactRank (Scaled n) = nearestRank n
 
--- a rank is an old record's own
-abbrev pub angleFitOf : ScanAngle → Fit
-angleFitOf (Rank r) = Fits
-angleFitOf (Scaled n) = scaledFitOf n
+-- a rank is judged by the same limits as the scaled angle that it is brought up to, and told by its bits
+unfoldable pub angleFitOf : ScanAngle → Fit
+angleFitOf a = cond (rankFits (exactRank a)) Fits (Refused (Angle (ofZ w16 (toScaled a))))
 
 -- the record check, in this order; it depends on three fields
 abbrev pub fieldsFit : Flags → MaybeNir → ScanAngle → Fit

@@ -104,6 +104,9 @@ unfolding overlapGoes
 never-28 true = refl
 never-28 false = refl
 
+pub never-at-28 : (k : ℕ) → k ≡ 28 → (o : Bool) → overlapGoes o k ≡ false
+never-at-28 k is o = ap (overlapGoes o) is ∙ never-28 o
+
 pub says-12 : (k : ℕ) → eqb k 28 ≡ false → (o t : Bool) → eqb k 12 ≡ t → overlapGoes o k ≡ Bool·beq o t
 unfolding overlapGoes
 says-12 k other true true e = e

@@ -1,7 +1,7 @@
 -- What an old record is read as, of a point that fits; and an old point brought up and written down again.
 use Prim.Native.Nat.{ℕ, _*_, _/_, _<_, _≤_}
 use mathlib.Core.Path.{_≡_, refl, ap, sym, subst, _∙_}
-use mathlib.Core.Bool.{Bool, true, false, cond}
+use mathlib.Core.Bool.{Bool, true, false}
 use mathlib.Core.List.{List, _++_}
 use native.Mathlib.Omega.{arith}
 use lib.IntN.{natAbs}
@@ -37,16 +37,17 @@ use Rattle.point_write.specs.Again.{held-taken}
 use Rattle.point_write.specs.Octets.{record-made}
 use Rattle.point_write.specs.Held.{FlagsHeld, AngleHeld, TimeHeld, ColorHeld, NirHeld, WaveformHeld, Held, nirIn, shownIn}
 use Rattle.point_write.specs.Theorems.{read-then-written, read-is-held, written-then-read, extra-written-then-read, missing-then-zero, extra-beside-missing}
+use Rattle.strict.specs.declared.Fit.{Fit}
 use Rattle.strict.specs.declared.Fit.the-variants.{Fits}
-use Rattle.strict.specs.Fit.{flagsFitOf, nirFitOf, fitOf}
+use Rattle.strict.specs.Fit.{firstOf, flagsFitOf, nirFitOf, angleFitOf, fitOf}
 use Rattle.strict.specs.Upgrade.{upgradedFlags, upgradedOld, upgradedOf}
 use Rattle.pairs.specs.Paired.{Paired}
 use Rattle.pairs.specs.Sound.{not-up}
 use Rattle.strict.specs.Shown.{Same, downImage, upImage}
 use Rattle.strict.specs.Made.{old-first, old-second}
 use Rattle.strict.specs.Laws.{fitting, bytes-of-fitting, fits-down}
-use Rattle.strict.specs.Whole.{fit-parts, parts-fit, angle-exact, nir-none}
-use Rattle.strict.specs.Back.{upgraded-held, upgraded-bytes, upgraded-fits}
+use Rattle.strict.specs.Whole.{fit-parts, angle-exact, nir-none}
+use Rattle.strict.specs.Back.{upgraded-held, old-judged, upgraded-bytes, record-none}
 
 -- the point that an old record has of p: its two bytes of flags, its rank, and no near infrared
 abbrev pub downFlags : TwoBytes → flags.Flags
@@ -182,14 +183,19 @@ nir-back : (n : MaybeNir) → NirHeld false n → None ≡ n
 nir-back (Some n) h = absurd h
 nir-back None h = refl
 
--- a missing near infrared is held, and fits, as it is shown: as 0 where the format has one
+-- a missing near infrared is held, and judged, as it is shown: as 0 where the format has one
 none-held : (has : Bool) → NirHeld has (nirIn has None)
 none-held true = omega arith
 none-held false = tt
 
-none-fits : (has : Bool) → nirFitOf (nirIn has None) ≡ Fits
-none-fits true = refl
-none-fits false = refl
+shown-judged : (f : Format) (p : Point) → fitOf (shownIn f p) ≡ fitOf p
+unfolding fitOf
+shown-judged f p = ap (λ (x : Fit). firstOf (flagsFitOf (p .flags)) (firstOf x (angleFitOf (p .«scan_angle»)))) (go (f .«has_nir») (p .nir))
+  where
+    go : (has : Bool) (n : MaybeNir) → nirFitOf (nirIn has n) ≡ nirFitOf n
+    go true (Some n) = refl
+    go true None = refl
+    go false n = refl
 
 -- an old point of two bytes of flags
 module _ (new old : Format) (pair : Paired new old) (p : Point) (e : List ℕ) (has : Held old p e) (a b : ℕ) (is-two : p .flags ≡ TwoByte a b) where
@@ -252,16 +258,6 @@ module _ (new old : Format) (pair : Paired new old) (p : Point) (e : List ℕ) (
         down-record old up e (pair .is-old) (pair .no-nir) a b bytes-back
         ∙ ap (λ (q : Point). recordOf old q e) down-up
 
-    pub up-fits : fitOf up ≡ Fits
-    unfolding upgradedOld
-    up-fits = go (p .«scan_angle») refl angle-held
-      where
-        go : (x : angle.ScanAngle) → p .«scan_angle» ≡ x → AngleHeld false x → fitOf up ≡ Fits
-        go (Rank r) is h =
-            let fit = fit-parts (upgradedOld p a b) (upgraded-fits a b not-28 p r is h) in
-            parts-fit up (fit .0) (none-fits (new .«has_nir»)) (fit .2)
-        go (Scaled n) is h = absurd h
-
 -- the same of a record's bytes
 module _ (new old : Format) (pair : Paired new old) (s : List ℕ) (all : Bytes s) (rest : List ℕ) where
   pub image-same : recordBytes new ≤ length s → fitOf (pointOf new s) ≡ Fits → Same (pointOf new s) (pointOf old (downImage new old s ++ rest)) × (fieldOf old ExtraBytes (downImage new old s ++ rest) ≡ fieldOf new ExtraBytes s)
@@ -275,9 +271,10 @@ module _ (new old : Format) (pair : Paired new old) (s : List ℕ) (all : Bytes 
   image-bytes long fits =
       down-bytes new old pair (pointOf new s) (fieldOf new ExtraBytes s) (read-is-held new s all long) fits (bytes-take (sizeOf new ExtraBytes) (drop (placeOf new ExtraBytes) s) (bytes-drop (placeOf new ExtraBytes) s all))
 
-  pub image-back : recordBytes old ≤ length s → (classOf (pointOf old s .flags) ≡ 28 → ⊥) → (fitOf (pointOf new (upImage old new s ++ rest)) ≡ Fits) × (downImage new old (upImage old new s ++ rest) ≡ take (recordBytes old) s)
+  -- what a record is brought up to is judged as it is, and has its bytes where its class isn't 28
+  pub image-back : recordBytes old ≤ length s → (fitOf (pointOf new (upImage old new s ++ rest)) ≡ fitOf (pointOf old s)) × ((classOf (pointOf old s .flags) ≡ 28 → ⊥) → downImage new old (upImage old new s ++ rest) ≡ take (recordBytes old) s)
   unfolding upgradedOf
-  image-back long not-28 = go (p .flags) refl (subst (λ (c : Bool). FlagsHeld c (p .flags)) (pair .is-old) (has .flags))
+  image-back long = go (p .flags) refl (subst (λ (c : Bool). FlagsHeld c (p .flags)) (pair .is-old) (has .flags))
     where
       p : Point
       p = pointOf old s
@@ -288,12 +285,11 @@ module _ (new old : Format) (pair : Paired new old) (s : List ℕ) (all : Bytes 
       has : Held old p e
       has = read-is-held old s all long
 
-      go : (f : flags.Flags) → p .flags ≡ f → FlagsHeld false f → (fitOf (pointOf new (upImage old new s ++ rest)) ≡ Fits) × (downImage new old (upImage old new s ++ rest) ≡ take (recordBytes old) s)
+      go : (f : flags.Flags) → p .flags ≡ f → FlagsHeld false f → (fitOf (pointOf new (upImage old new s ++ rest)) ≡ fitOf p) × ((classOf (p .flags) ≡ 28 → ⊥) → downImage new old (upImage old new s ++ rest) ≡ take (recordBytes old) s)
       go (ThreeByte a b c) is h = absurd h
       go (TwoByte a b) is h =
           let u = upgradedOld p a b in
           let is-up : upImage old new s ≡ recordOf new u e = rw is in
           let held = up-held new old pair p e has a b is in
-          let other : classOf (TwoByte a b) ≡ 28 → ⊥ = subst (λ (f : flags.Flags). classOf f ≡ 28 → ⊥) is not-28 in
           rw (is-up, missing-then-zero new u e held rest, extra-beside-missing new u e held rest)
-          (up-fits new old pair p e has a b is other, up-down new old pair p e has a b is other ∙ read-then-written old s all long)
+          (shown-judged new u ∙ old-judged a b p is (record-none old (pair .is-old) (pair .no-nir) s), λ not-28. up-down new old pair p e has a b is (λ q. not-28 (ap classOf is ∙ q)) ∙ read-then-written old s all long)

@@ -2,8 +2,8 @@
 -- standard's both".
 use Prim.Native.Nat.{ℕ}
 use mathlib.Core.Path.{_≡_}
+use mathlib.Core.Bool.{true}
 use mathlib.Core.List.{List}
-use lib.IntN.{ℤ}
 use mir.Syntax.{w16}
 use mir.Val.{ofZ}
 use Rattle.le.specs.Le as le
@@ -16,14 +16,14 @@ use Rattle.flags.specs.declared.Flags.the-variants.{TwoByte}
 use Rattle.flags.specs.declared.TwoBytes.the-variants.{Bytes}
 use Rattle.flags.specs.Readings.{returnNumberOf, numberOfReturnsOf, directionOf, edgeOf, classOf, syntheticOf, keyPointOf, withheldOf, overlapOf, standardOverlapOf, channelOf}
 use Rattle.flags.specs.Bytes.{twoBytesOf}
-use Rattle.angle.specs.declared.ScanAngle.{ScanAngle}
-use Rattle.angle.specs.declared.ScanAngle.the-variants.{Rank, Scaled}
-use Rattle.angle.specs.Angle.{nearestRank, toScaled}
+use Rattle.angle.specs.declared.ScanAngle.the-variants.{Rank}
+use Rattle.angle.specs.Angle.{toScaled}
 use Rattle.point.specs.declared.MaybeNir.{MaybeNir}
 use Rattle.point.specs.declared.MaybeNir.the-variants.{Some, None}
 use Rattle.point.specs.declared.Point.{Point}
 use Rattle.point.specs.Read.{fieldOf, pointOf}
 use Rattle.point_write.specs.Write.{recordOf}
+use Rattle.strict.specs.Fit.{rankFits, exactRank}
 use Rattle.strict.specs.Upgrade.{upgradedOf}
 
 -- g says in every reading what f says; overlap by the Rust's reading of g and by the standard's
@@ -47,11 +47,6 @@ pub record Down (f : Flags) : Type 0 where
   pub bytes : twoBytesOf f ≡ Bytes first second
   pub shown : Shown f (TwoByte first second)
 
--- "scan angle to the nearest whole degree with halves away from zero", in ℤ
-abbrev pub exactRank : ScanAngle → ℤ
-exactRank (Rank r) = r
-exactRank (Scaled n) = nearestRank n
-
 -- document 02, No. 5: "demand 3 reads a missing NIR, in the old record or the new, as zero"
 abbrev pub nirNumber : MaybeNir → ℕ
 nirNumber (Some n) = n
@@ -72,12 +67,16 @@ pub record Same (p q : Point) : Type 0 where
   pub waveform : q .waveform ≡ p .waveform
   pub nir : nirNumber (q .nir) ≡ nirNumber (p .nir)
 
+-- "the old rank within ±90", as an old record of the standard has it; a byte can hold others
+abbrev pub Within90 : Point → Type 0
+Within90 q = rankFits (exactRank (q .«scan_angle»)) ≡ true
+
 -- no old record says it: in no list of bytes does an old reader find such a point
 abbrev pub Never : Format → (Point → Type 0) → Type 0
 Never old says = (t : List ℕ) → le.Bytes t → says (pointOf old t) → ⊥
 
 -- What a refusal names, with its value: a reading that no old record has; the class, where none has it with the overlap that is
--- said, as both old readers take it; near infrared; an angle whose nearest whole degree is no record's rank.
+-- said, as both old readers take it; near infrared; an angle whose nearest whole degree is no rank of the standard's.
 pub data Unshown (old : Format) (p : Point) : Refusal → Type 0 where
   return-number : Never old (λ q. returnNumberOf (q .flags) ≡ returnNumberOf (p .flags)) → Unshown old p (ReturnNumber (returnNumberOf (p .flags)))
   number-of-returns : Never old (λ q. numberOfReturnsOf (q .flags) ≡ numberOfReturnsOf (p .flags)) → Unshown old p (NumberOfReturns (numberOfReturnsOf (p .flags)))
@@ -85,7 +84,7 @@ pub data Unshown (old : Format) (p : Point) : Refusal → Type 0 where
   channel : Never old (λ q. channelOf (q .flags) ≡ channelOf (p .flags)) → Unshown old p (Channel (channelOf (p .flags)))
   overlap : Never old (λ q. (classOf (q .flags) ≡ classOf (p .flags)) × (overlapOf (q .flags) ≡ overlapOf (p .flags)) × (standardOverlapOf (q .flags) ≡ overlapOf (p .flags))) → Unshown old p (Overlap (classOf (p .flags)))
   nir : Never old (λ q. nirNumber (q .nir) ≡ nirNumber (p .nir)) → Unshown old p (Nir (nirNumber (p .nir)))
-  angle : Never old (λ q. q .«scan_angle» ≡ Rank (exactRank (p .«scan_angle»))) → Unshown old p (Angle (ofZ w16 (toScaled (p .«scan_angle»))))
+  angle : Never old (λ q. Within90 q × (q .«scan_angle» ≡ Rank (exactRank (p .«scan_angle»)))) → Unshown old p (Angle (ofZ w16 (toScaled (p .«scan_angle»))))
 
 -- the bytes that stand for the record s in the other format of a pair: its point's, and its extra bytes
 abbrev pub downImage : Format → Format → List ℕ → List ℕ

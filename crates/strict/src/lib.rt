@@ -2,7 +2,7 @@
 // field the same, and an old point made new. The bytes are the point writer's.
 ghost use mathlib.Core.Path.{_≡_};
 ghost use Rattle.angle.specs.Angle.{nearestRank};
-ghost use Rattle.strict.specs.Fit.{firstOf, overlapGoes, readingsFit, flagsFitOf, nirFitOf, rankFits, scaledFitOf, angleFitOf, fieldsFit, fitOf};
+ghost use Rattle.strict.specs.Fit.{firstOf, overlapGoes, readingsFit, flagsFitOf, nirFitOf, rankFits, angleFitOf, fieldsFit, fitOf};
 ghost use Rattle.strict.specs.Upgrade.{upgradedFlags, upgradedWith, upgradedOf, upgradedTo};
 use angle::ScanAngle;
 use flags::Flags;
@@ -16,11 +16,11 @@ const OVERLAP_CLASSIFICATION_CODE: u8 = 12;
 
 const READ_AS_OVERLAP_TOO: u8 = 28;
 
-// The scaled angles whose nearest rank, 6n/1000 with halves away from zero, is from -128 to 127: 6 * 21416 is the last multiple
-// of 6 below 128500, and 6 * 21249 the last below 127500.
-const LOWEST_SCALED: i16 = -21416;
+// The scaled angles whose nearest rank, 6n/1000 with halves away from zero, is one of the standard's, -90 to 90: 6 * 15083 is
+// 90498, the last multiple of 6 below 90500.
+const LOWEST_SCALED: i16 = -15083;
 
-const HIGHEST_SCALED: i16 = 21249;
+const HIGHEST_SCALED: i16 = 15083;
 
 // Whether a point goes into the old format with every field the same, or the first field that does not.
 pub enum Fit {
@@ -150,18 +150,15 @@ fn check_nir(nir: MaybeNir) -> Fit
     }
 }
 
-// A rank fits as it is, a scaled angle where its nearest rank need not be held.
+// A rank is judged as the scaled angle that it is brought up to.
 fn check_angle(scan_angle: ScanAngle) -> Fit
     ensures { λ r. ⌜ r ≡ angleFitOf «scan_angle» ⌝ }
 {
-    match scan_angle {
-        ScanAngle::Rank(_) => Fit::Fits,
-        ScanAngle::Scaled(n) => check_scaled(n),
-    }
+    check_scaled(scan_angle.to_scaled())
 }
 
 fn check_scaled(n: i16) -> Fit
-    ensures { λ r. ⌜ r ≡ scaledFitOf n ⌝ }
+    ensures { λ r. ⌜ r ≡ angleFitOf (ScanAngle.Scaled n) ⌝ }
 {
     if scaled_fits(n) {
         return Fit::Fits;
@@ -169,7 +166,7 @@ fn check_scaled(n: i16) -> Fit
     Fit::Refused(Refusal::Angle(signed::bits16(n)))
 }
 
-// Whether the nearest rank need not be held.
+// Whether the nearest rank is one of the standard's.
 fn scaled_fits(n: i16) -> bool
     ensures { λ r. ⌜ r ≡ rankFits (nearestRank n) ⌝ }
 {

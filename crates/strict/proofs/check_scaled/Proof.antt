@@ -4,7 +4,7 @@ use mir.Syntax.{w16}
 use mir.Val.{toZ, ofZ}
 use mir.ValLaws.{toZ-ofZ}
 use Rattle.angle.specs.Angle.{nearestRank}
-use Rattle.strict.specs.Fit.{rankFits, scaledFitOf}
+use Rattle.strict.specs.Fit.{rankFits, angleFitOf}
 use Rattle.strict.proofs.check_scaled.Statement.{statement}
 use Rattle.strict.proofs.check_scaled.Tie as tie
 
@@ -15,11 +15,11 @@ asked : (c : tie.After-scaled-fits) → c .scaled-fits .result ≡ rankFits (nea
 asked c = rw (seen (c .before)) at (c .scaled-fits .ensures)
 
 returns : tie.Need-returns
-unfolding scaledFitOf
+unfolding angleFitOf
 returns c = rw (← (asked (c .before)), c .if1 .taken)
 
 returns-2 : tie.Need-returns-2
-unfolding scaledFitOf
+unfolding angleFitOf
 returns-2 c =
     rw (← (asked (c .before .before)), c .before .if1 .left, c .bits16 .ensures, seen (c .before .before .before))
 

@@ -26,18 +26,18 @@ within k last n h l = go (leb n last) refl
     go false e = ap not (lt-ltb k (nearest n) (omega (arith, leb-false n last e, nearest-whole n .0)))
 
 -- a rank that is not above zero is tested at the lower end
-below : (m : ℕ) → rankFits (negℤ (pos m)) ≡ (not (ltb 128 m) && true)
+below : (m : ℕ) → rankFits (negℤ (pos m)) ≡ (not (ltb 90 m) && true)
 unfolding rankFits
 below zero = refl
-below (suc m) = rw (leb·suc-suc 128 m)
+below (suc m) = rw (leb·suc-suc 90 m)
 
-between : (n : ℤ) → rankFits (nearestRank n) ≡ (leZ (negsuc 21415) n && leZ n (pos 21249))
+between : (n : ℤ) → rankFits (nearestRank n) ≡ (leZ (negsuc 15082) n && leZ n (pos 15083))
 unfolding rankFits
-between (pos n) = ap rankFits (nearest-sided (pos n)) ∙ within 127 21249 n (omega arith) (omega arith)
+between (pos n) = ap rankFits (nearest-sided (pos n)) ∙ within 90 15083 n (omega arith) (omega arith)
 between (negsuc k) =
     ap rankFits (nearest-sided (negsuc k))
     ∙ below (nearest (suc k))
-    ∙ rw (within 128 21416 (suc k) (omega arith) (omega arith), leb·suc-suc k 21415)
+    ∙ rw (within 90 15083 (suc k) (omega arith) (omega arith), leb·suc-suc k 15082)
 
 seen : (c : tie.Start) → toZ w16 (ofZ w16 (c .args .n)) ≡ c .args .n
 seen c = toZ-ofZ w16 (c .args .n) (c .fits .n)
