@@ -14,7 +14,7 @@ use Rattle.point.specs.declared.Point.{Point}
 use Rattle.point.specs.Read.{pointOf, fieldOf}
 use Rattle.strict.specs.declared.Fit.the-variants as fit
 use Rattle.strict.specs.Fit.{fitOf}
-use Rattle.strict.specs.Shown.{Same, Never, Unshown}
+use Rattle.strict.specs.Shown.{Same, Within90, Never, Unshown}
 use Rattle.strict.specs.First.{FirstField}
 use Rattle.pairs.specs.Pairs.{formatWith}
 
@@ -59,13 +59,14 @@ pub record SameValues (new old extra k : ℕ) (s e : List ℕ) : Type 0 where
   pub extra-bytes : extraAt old extra k e ≡ extraAt new extra k s
 
 -- an old record that shows the record after k others: bytes of the old format's length, in which an old reader finds the same value in
--- every field, and the same extra bytes
+-- every field, and the same extra bytes; and it is one of the standard, whose rank is within ±90
 pub record OldRecord (new old extra k : ℕ) (s : List ℕ) : Type 0 where
   pub image : List ℕ
   pub bytes : le.Bytes image
   pub long : length image ≡ lengthOf old extra
   pub readings : Same (pointAt new extra k s) (pointOf (formatWith old extra) image)
   pub extra-bytes : fieldOf (formatWith old extra) ExtraBytes image ≡ extraAt new extra k s
+  pub within-90 : Within90 (pointOf (formatWith old extra) image)
 
 -- neither record is over 65,535 bytes
 abbrev pub NotOverlong : ℕ → ℕ → ℕ → Type 0
@@ -80,17 +81,22 @@ abbrev pub AllFit : ℕ → ℕ → ℕ → List ℕ → Type 0
 AllFit code extra count s = (k : ℕ) → k < count → fitOf (pointAt code extra k s) ≡ fit.Fits
 
 -- the record after k others is the first that does not fit, and `why` names the first of its fields that does not (`FirstField`, in
--- strict/specs/First.antt, has document 01's order): no old record of the pair has what `why` names, and so none shows the same values
+-- strict/specs/First.antt, has document 01's order): no old record of the pair has what `why` names, and so none shows the same values; of
+-- an angle, none of the standard
 pub record FirstUnfit (new old extra count k : ℕ) (s : List ℕ) (why : Refusal) : Type 0 where
   pub within : k < count
   pub earlier-fit : AllFit new extra k s
   pub first-field : FirstField (pointAt new extra k s) why
   pub named : Unshown (formatWith old extra) (pointAt new extra k s) why
-  pub not-shown : Never (formatWith old extra) (Same (pointAt new extra k s))
+  pub not-shown : Never (formatWith old extra) (λ q. Within90 q × Same (pointAt new extra k s) q)
 
 -- none has class 28
 abbrev pub No28 : ℕ → ℕ → ℕ → List ℕ → Type 0
 No28 code extra count s = (k : ℕ) → k < count → classOf (pointAt code extra k s .flags) ≡ 28 → ⊥
+
+-- all have ranks within ±90
+abbrev pub AllWithin90 : ℕ → ℕ → ℕ → List ℕ → Type 0
+AllWithin90 code extra count s = (k : ℕ) → k < count → Within90 (pointAt code extra k s)
 
 -- the first m bytes of s at the front of d
 abbrev pub laid : ℕ → List ℕ → List ℕ → List ℕ

@@ -26,9 +26,9 @@ use Rattle.judge.specs.declared.Judged.the-variants as judged
 use Rattle.convert.specs.declared.Converted.{Converted}
 use Rattle.convert.specs.declared.Converted.the-variants as converted
 use Rattle.judge.specs.Judge.{judgedBy, judgeRun, judgedOf}
-use Rattle.convert.specs.Run.{imageOf, imagesOf, ran, convertedOf}
+use Rattle.convert.specs.Run.{turnedOf, imageOf, imagesOf, ran, convertedOf}
 use Rattle.pairs.specs.Sound.{Sound}
-use Rattle.convert.specs.Asked.{TakesRun}
+use Rattle.convert.specs.Asked.{Takes, TakesRun}
 use Rattle.convert.specs.Demand.{nth}
 use Rattle.judge.specs.Laws.{goes}
 use Rattle.convert.specs.Laws.{image-length, takes-all}
@@ -152,6 +152,14 @@ module _ (up : Bool) (p : Plan) (sound : Sound up p) where
             ∙ ap (λ (x : List ℕ). imageOf up p (take m x) ++ later .0) (sym (at-suc m k s)),
       )
 
+  -- and so it is the record after k others of what stands there
+  pub image-at : (k count : ℕ) (s rest : List ℕ) → TakesRun up p count s → count * p .«source_length» ≤ length s → k < count → Takes (p .target) (turnedOf up (pointOf (p .source) (nth (p .«source_length») k s))) → nth (p .«target_length») k (imagesOf up p count s ++ rest) ≡ imageOf up p (nth (p .«source_length») k s)
+  image-at k count s rest t h l takes =
+      let m = p .«source_length» in
+      let n = p .«target_length» in
+      let image = each-image k count s rest t h l in
+      ap (take n) (image .1) ∙ take-at (imageOf up p (nth m k s)) (image .0) n (image-length up p sound (nth m k s) (nth-length m k count s l h) takes)
+
 -- a run that is converted was judged to fit, and its images stand before what was there
 module _ (up : Bool) (p : Plan) (count : ℕ) (s d : List ℕ) where
   pub record Written (n : ℕ) (e : List ℕ) : Type 0 where
@@ -181,10 +189,9 @@ module _ (p : Plan) (sound : Sound false p) (pair : Paired (p .source) (p .targe
       let n = p .«target_length» in
       let r = nth m k s in
       let g = goes false p count s (length d) fits in
-      let image = each-image false p sound k count s (drop (count * n) d) (takes-all false p sound count s (g .records)) (g .there) l in
       let long : length r ≡ m = nth-length m k count s l (g .there) in
       let own = fits-each (p .source) m 1 count s (g .records) k l in
-      let size : length (imageOf false p r) ≡ n = image-length false p sound r long (λ _. own) in
-      let stands : nth n k e ≡ downImage (p .source) (p .target) r ++ [] = ap (nth n k) is ∙ ap (take n) (image .1) ∙ take-at (imageOf false p r) (image .0) n size ∙ sym (append-nil (imageOf false p r)) in
+      let image = image-at false p sound k count s (drop (count * n) d) (takes-all false p sound count s (g .records)) (g .there) l (λ _. own) in
+      let stands : nth n k e ≡ downImage (p .source) (p .target) r ++ [] = ap (nth n k) is ∙ image ∙ sym (append-nil (imageOf false p r)) in
       let same = shown-the-same (p .source) (p .target) pair r (bytes-take m (drop (k * m) s) (bytes-drop (k * m) s bytes)) [] (omega (arith, len-is (p .source) m (sound .from))) own in
       subst (λ (t : List ℕ). Same (pointOf (p .source) r) (pointOf (p .target) t) × (fieldOf (p .target) ExtraBytes t ≡ fieldOf (p .source) ExtraBytes r)) (sym stands) same

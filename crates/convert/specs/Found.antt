@@ -15,15 +15,16 @@ use Rattle.strict.specs.declared.Fit.the-variants as fit
 use Rattle.strict.specs.Fit.{fitOf}
 use Rattle.strict.specs.Shown.{Same, downImage}
 use Rattle.strict.specs.Theorems.{shown-the-same, shown-in-bytes, first-field-named, refused-only-then, no-old-record-shows-it, fits-if-shown}
+use Rattle.strict.specs.Whole.{same-within}
 use Rattle.convert.specs.declared.Converted.the-variants as converted
 use Rattle.pairs.specs.Pairs.{formatWith}
 use Rattle.convert.specs.Run.{imagesOf, toOldOf}
 use Rattle.pairs.specs.Sound.{Sound}
-use Rattle.convert.specs.Demand.{Down, lengthOf, runLength, nth, pointAt, SameValues, OldRecord, FirstUnfit, RefusedFor, of-record}
+use Rattle.convert.specs.Demand.{Down, lengthOf, runLength, nth, pointAt, SameValues, OldRecord, FirstUnfit, AllWithin90, RefusedFor, of-record}
 use Rattle.judge.specs.Laws.{goes}
 use Rattle.convert.specs.Laws.{takes-all, images-length}
 use Rattle.convert.specs.Told.{planOf, told-bytes, plan-of-sound, down-paired, down-told}
-use Rattle.convert.specs.Each.{nth-length, Written, written, each-shown}
+use Rattle.convert.specs.Each.{nth-length, fits-each, Written, written, each-shown}
 
 module _ {new old : ℕ} (pair : Down new old) (extra count : ℕ) (s d : List ℕ) where
   module _ {n : ℕ} {e : List ℕ} (h : toOldOf new extra count s d ≡ (converted.Bytes n, e)) where
@@ -40,6 +41,12 @@ module _ {new old : ℕ} (pair : Down new old) (extra count : ℕ) (s d : List �
         let w = down-written in
         let same = each-shown _ down-sound (down-paired pair extra) count s d bytes (w .fits) (w .stands) k l in
         record { readings = same .0; extra-bytes = same .1 }
+
+    pub ranks-within : le.Bytes s → AllWithin90 old extra count e
+    ranks-within bytes k l =
+        let plan = planOf (formatWith new extra) (formatWith old extra) in
+        let g = goes false plan count s (length d) (down-written .fits) in
+        same-within (same-values bytes k l .readings) (fits-each (formatWith new extra) (lengthOf new extra) 1 count s (g .records) k l)
 
     pub rest-stays : (n ≡ runLength old extra count) × (drop n e ≡ drop n d)
     rest-stays =
@@ -62,10 +69,10 @@ module _ {new old : ℕ} (pair : Down new old) (extra count : ℕ) (s d : List �
         let long : length r ≡ lengthOf new extra = nth-length (lengthOf new extra) k count s within there in
         let shown = subst (λ (t : List ℕ). Same (pointOf a r) (pointOf b t) × (fieldOf b ExtraBytes t ≡ fieldOf a ExtraBytes r)) (append-nil (downImage a b r)) (shown-the-same a b paired r all [] (omega arith) fits) in
         let own = shown-in-bytes a b paired r all [] (omega arith) fits in
-        record { image = downImage a b r; bytes = own .0; long = own .1; readings = shown .0; extra-bytes = shown .1 }
+        record { image = downImage a b r; bytes = own .0; long = own .1; readings = shown .0; extra-bytes = shown .1; within-90 = same-within (shown .0) fits }
 
     pub shown-fits : OldRecord new old extra k s → fitOf (pointAt new extra k s) ≡ fit.Fits
-    shown-fits o = fits-if-shown _ _ (down-paired pair extra) _ (o .image) (o .bytes) (o .readings)
+    shown-fits o = fits-if-shown _ _ (down-paired pair extra) _ (o .image) (o .bytes) (o .within-90) (o .readings)
 
   -- a refusal with a record's number is that record's
   pub unfit-record : {why : Refusal} {k : ℕ} → RefusedFor new extra count s d why (suc k) → FirstUnfit new old extra count k s why

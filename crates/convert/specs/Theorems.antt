@@ -10,10 +10,10 @@ use Rattle.refusal.specs.declared.Refusal.{Refusal}
 use Rattle.le.specs.Le as le
 use Rattle.convert.specs.declared.Converted.the-variants.{Bytes, Refused}
 use Rattle.convert.specs.Run.{toOldOf, toNewOf}
-use Rattle.convert.specs.Demand.{Down, Up, lengthOf, runLength, SameValues, OldRecord, FirstUnfit, NotOverlong, Enough, No28, laid, Convertible, RefusedFor}
+use Rattle.convert.specs.Demand.{Down, Up, lengthOf, runLength, SameValues, OldRecord, FirstUnfit, NotOverlong, Enough, No28, AllWithin90, laid, Convertible, RefusedFor}
 use Rattle.convert.specs.Exact.{converted-then, then-converted, refused-then, then-refused}
-use Rattle.convert.specs.Found.{same-values, rest-stays, fits-shown, shown-fits, unfit-record}
-use Rattle.convert.specs.Back.{upgrade-answered, answered-back}
+use Rattle.convert.specs.Found.{same-values, ranks-within, rest-stays, fits-shown, shown-fits, unfit-record}
+use Rattle.convert.specs.Back.{upgrade-answered, answered-back, back-only}
 
 module _ {new old : ℕ} (pair : Down new old) (extra count : ℕ) (s d : List ℕ) where
   -- "A run of format 6 to 10 records made strictly into its paired old format shows an old reader, in every record, the same value in
@@ -23,6 +23,12 @@ module _ {new old : ℕ} (pair : Down new old) (extra count : ℕ) (s d : List �
       → (k : ℕ) → k < count → SameValues new old extra k s e
   every-record bytes converted = same-values pair extra count s d converted bytes
 
+  -- Document 02, No. 2: "the standard's rank runs from −90 to 90". So do the ranks of all that is converted.
+  pub every-rank-within-90 :
+      {n : ℕ} {e : List ℕ} → le.Bytes s → toOldOf new extra count s d ≡ (Bytes n, e)
+      → AllWithin90 old extra count e
+  every-rank-within-90 bytes converted = ranks-within pair extra count s d converted bytes
+
   -- "If all fit, each record goes into the rest of the destination and bytes past the run stay."
   pub past-the-run :
       {n : ℕ} {e : List ℕ} → toOldOf new extra count s d ≡ (Bytes n, e)
@@ -30,14 +36,15 @@ module _ {new old : ℕ} (pair : Down new old) (extra count : ℕ) (s d : List �
   past-the-run = rest-stays pair extra count s d
 
   -- "Otherwise the first record and first field that doesn't fit are named": the record is there, those before it fit, the fields before
-  -- the one that is named fit too, and what is named does not, since no old record of the pair shows the same values.
+  -- the one that is named fit too, and what is named does not, since no old record of the pair, and of the standard, shows the same values.
   pub refused-record :
       {why : Refusal} {k : ℕ} {e : List ℕ} → toOldOf new extra count s d ≡ (Refused why (suc k), e)
       → FirstUnfit new old extra count k s why
   refused-record refused = unfit-record pair extra count s d (refused-then new extra count s d refused .0)
 
   -- "It is refused only then, a short buffer, an overlong record or a wrong format aside": these aside, a run is converted exactly when
-  -- each of its records has an old record that shows it.
+  -- each of its records has an old record of the standard that shows it. (Of every old record this would be false: `rank-104-shows-a-refused-point`
+  -- in strict/specs/Theorems.antt.)
   pub converted-if-shown :
       le.Bytes s → NotOverlong new old extra → Enough new old extra count s d
       → ((n : ℕ) × (e : List ℕ) × (toOldOf new extra count s d ≡ (Bytes n, e))) ↔ ((k : ℕ) → k < count → OldRecord new old extra k s)
@@ -73,8 +80,8 @@ module _ (code extra count : ℕ) (s d : List ℕ) where
   refused-unwritten refused = refused-then code extra count s d refused .1
 
 -- "An old record with a pair, whose class isn't 28 and whose new record isn't overlong, brought up and strictly down again, has its own
--- bytes." Where no buffer is short the upgrade is answered; what it leaves, made old into any d′ with room, is the run's own bytes there,
--- and what lies past them stays.
+-- bytes." Document 02, No. 2: this "now needs the old rank within ±90". Where no buffer is short the upgrade is answered; what it leaves, made
+-- old into any d′ with room, is the run's own bytes there, and what lies past them stays.
 module _ {old new : ℕ} (pair : Up old new) (extra count : ℕ) (s d : List ℕ) where
   pub upgraded-run :
       lengthOf new extra ≤ 65535 → Enough old new extra count s d
@@ -83,6 +90,15 @@ module _ {old new : ℕ} (pair : Up old new) (extra count : ℕ) (s d : List ℕ
 
   pub up-and-down-run :
       {n : ℕ} {e : List ℕ} → le.Bytes s → toNewOf old extra count s d ≡ (Bytes n, e)
-      → No28 old extra count s → (d′ : List ℕ) → runLength old extra count ≤ length d′
+      → No28 old extra count s → AllWithin90 old extra count s → (d′ : List ℕ) → runLength old extra count ≤ length d′
       → toOldOf new extra count e d′ ≡ (Bytes (runLength old extra count), laid (runLength old extra count) s d′)
-  up-and-down-run = answered-back pair extra count s d
+  up-and-down-run bytes = answered-back pair extra count s d bytes
+
+  -- Class and rank are both needed: what was brought up goes down again exactly then.
+  pub down-again-run :
+      {n : ℕ} {e : List ℕ} → le.Bytes s → toNewOf old extra count s d ≡ (Bytes n, e) → (d′ : List ℕ) → runLength old extra count ≤ length d′
+      → ((n′ : ℕ) × (e′ : List ℕ) × (toOldOf new extra count e d′ ≡ (Bytes n′, e′))) ↔ (No28 old extra count s × AllWithin90 old extra count s)
+  down-again-run bytes upgraded d′ room = (
+    λ w. back-only pair extra count s d bytes upgraded d′ (w .2),
+    λ may. (_, _, up-and-down-run bytes upgraded (may .0) (may .1) d′ room),
+  )
