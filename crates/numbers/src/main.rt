@@ -1,7 +1,7 @@
-// Runs document 01's "Numbers on each side" on flags and angles through the public calls: plainly by `Flags::to_two_bytes`,
-// `to_three_bytes`, `ScanAngle::to_rank` and `to_scaled`, strictly by `convert::to_old` and `convert::to_new` over a whole record
-// of format 6 or 1. `stdout` has the lines that document 01 says, written from it and never from this program. What is printed is
-// outside the logic, so these functions promise only that they are safe and end.
+// Runs document 01's "Numbers on each side" on flags and angles, and document 02's on ranks, through the public calls: plainly by
+// `Flags::to_two_bytes`, `to_three_bytes`, `ScanAngle::to_rank` and `to_scaled`, strictly by `convert::to_old` and `convert::to_new`
+// over a whole record of format 6 or 1; what was upgraded goes down again. `stdout` has the lines that the documents say, written from
+// them and never from this program. What is printed is outside the logic, so these functions promise only that they are safe and end.
 use angle::ScanAngle;
 use convert::Converted;
 use flags::Flags;
@@ -25,9 +25,14 @@ fn main() {
     flags_down(0x11, 0, 32);
     flags_down(0x11, 0x10, 2);
     flags_up(0x51, 0x22);
+    flags_up(0x09, 0x1c);
     angle_down(249);
     angle_down(250);
     angle_down(-250);
+    angle_down(15083);
+    angle_down(15084);
+    angle_down(-15083);
+    angle_down(-15084);
     angle_down(21249);
     angle_down(21250);
     angle_down(-21416);
@@ -35,6 +40,11 @@ fn main() {
     angle_up(1);
     angle_up(3);
     angle_up(-128);
+    angle_up(90);
+    angle_up(91);
+    angle_up(104);
+    angle_up(-90);
+    angle_up(-91);
 }
 
 // Extended flags made old, plainly and strictly.
@@ -63,7 +73,7 @@ fn strict_two(a: u8, b: u8, c: u8) {
     }
 }
 
-// Old flags made extended, as the Rust does and by the upgrade.
+// Old flags made extended, as the Rust does and by the upgrade, and what was upgraded made old again.
 fn flags_up(a: u8, b: u8) {
     print_two(a, b);
     print(b" plainly ");
@@ -78,7 +88,11 @@ fn upgraded_three(a: u8, b: u8) {
     let old = old_record(a, b, 0);
     let mut new = [0u8; NEW];
     match convert::to_new(&old, 1, 0, 1, &mut new) {
-        Converted::Bytes(_) => print_three(new[14], new[15], new[16]),
+        Converted::Bytes(_) => {
+            print_three(new[14], new[15], new[16]);
+            print(b", down again ");
+            strict_two(new[14], new[15], new[16]);
+        }
         Converted::Refused { refusal, record } => print_refused(refusal, record),
     }
 }
@@ -104,7 +118,7 @@ fn strict_rank(bits: u16) {
     }
 }
 
-// A rank made scaled, plainly and by the upgrade.
+// A rank made scaled, plainly and by the upgrade, and what was upgraded made a rank again.
 fn angle_up(r: i8) {
     let bits = signed::bits8(r);
     print(b"rank ");
@@ -120,7 +134,12 @@ fn upgraded_angle(rank: u8) {
     let old = old_record(0, 0, rank);
     let mut new = [0u8; NEW];
     match convert::to_new(&old, 1, 0, 1, &mut new) {
-        Converted::Bytes(_) => print_signed16(le::u16_at(&new, 18)),
+        Converted::Bytes(_) => {
+            let bits = le::u16_at(&new, 18);
+            print_signed16(bits);
+            print(b", down again ");
+            strict_rank(bits);
+        }
         Converted::Refused { refusal, record } => print_refused(refusal, record),
     }
 }
