@@ -94,8 +94,10 @@ static void test_refused_records(void) {
         {{0x88, 0x10, 40}, 0, LAS_REFUSED_RETURN_NUMBER, 8}, {{0x81, 0, 2}, 0, LAS_REFUSED_NUMBER_OF_RETURNS, 8},
         {{0x11, 0, 32}, 0, LAS_REFUSED_CLASS, 32},           {{0x11, 0x10, 2}, 0, LAS_REFUSED_CHANNEL, 1},
         {{0x21, 0x48, 2}, 0, LAS_REFUSED_OVERLAP, 2},        {{0x11, 0, 28}, 0, LAS_REFUSED_OVERLAP, 28},
-        {{0x11, 0, 12}, 0, LAS_REFUSED_OVERLAP, 12},         {{0x11, 0, 2}, 21250, LAS_REFUSED_ANGLE, 21250},
-        {{0x11, 0, 2}, -21417, LAS_REFUSED_ANGLE, 65536 - 21417},
+        {{0x11, 0, 12}, 0, LAS_REFUSED_OVERLAP, 12},         {{0x11, 0, 2}, 15084, LAS_REFUSED_ANGLE, 15084},
+        {{0x11, 0, 2}, -15084, LAS_REFUSED_ANGLE, 50452},    {{0x11, 0, 2}, 21249, LAS_REFUSED_ANGLE, 21249},
+        {{0x11, 0, 2}, -21416, LAS_REFUSED_ANGLE, 44120},    {{0x11, 0, 2}, 21250, LAS_REFUSED_ANGLE, 21250},
+        {{0x11, 0, 2}, -21417, LAS_REFUSED_ANGLE, 44119},
     };
     uint64_t row[3];
     uint8_t run[3 * RECORD], dst[120];
@@ -126,7 +128,7 @@ static void test_refused_records(void) {
     uint64_t point[LAS_POINT_NUMBERS];
     las_point_default(point);
     point[LAS_POINT_FLAGS] = las_flags_three_bytes(0x11, 0x08, 12);
-    static const int16_t last[2] = {21249, -21416};
+    static const int16_t last[2] = {15083, -15083};
     for (size_t i = 0; i < 2; i++) {
         point[LAS_POINT_SCAN_ANGLE] = las_angle_scaled(last[i]);
         las_strict_check(point, row);
@@ -152,6 +154,24 @@ static void test_refused_records(void) {
     infrared[37] = 1;
     las_convert_to_old(infrared, sizeof infrared, 8, 0, 1, dst, sizeof dst, row);
     CHECK(told(row, LAS_REFUSED_NIR, 256, 1));
+}
+
+/* A rank is judged by the limits of scaled angles, and told as the scaled angle that it is upgraded to. */
+static void test_ranks(void) {
+    uint64_t row[3], point[LAS_POINT_NUMBERS];
+    for (int rank = -128; rank < 128; rank++) {
+        las_point_default(point);
+        point[LAS_POINT_FLAGS] = las_flags_two_bytes(0x09, 0x02);
+        point[LAS_POINT_SCAN_ANGLE] = las_angle_rank((int8_t)rank);
+        uint64_t scaled = (uint16_t)(500 * rank / 3);
+        bool fits = -90 <= rank && rank <= 90;
+        for (int upgraded = 0; upgraded < 2; upgraded++) {
+            las_strict_check(point, row);
+            CHECK(fits ? told(row, LAS_OK, 0, 0) : told(row, LAS_REFUSED_ANGLE, scaled, 0));
+            las_strict_upgraded(point);
+        }
+        CHECK(point[LAS_POINT_SCAN_ANGLE] == las_angle_scaled((int16_t)(500 * rank / 3)));
+    }
 }
 
 /* The upgrade of one point. */
@@ -190,6 +210,7 @@ static void test_upgraded(void) {
 
 void test_conversion(void) {
     test_upgraded();
+    test_ranks();
     test_both_ways();
     test_refused_runs();
     test_refused_records();

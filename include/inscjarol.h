@@ -80,7 +80,7 @@ enum {
     LAS_REFUSED_CHANNEL = 18,           /* the scanner channel */
     LAS_REFUSED_OVERLAP = 19,           /* the class that the overlap flag does not go with */
     LAS_REFUSED_NIR = 20,               /* the near infrared */
-    LAS_REFUSED_ANGLE = 21,             /* the scaled angle's 16 bits, unsigned */
+    LAS_REFUSED_ANGLE = 21,             /* the scaled angle's 16 bits, unsigned; of a rank, those of its scaled angle */
     LAS_REFUSED_NO_ROOM = 22,           /* bytes or entries wanted, 0 if over 2^64 - 1 */
     LAS_REFUSED_EXTRA_BYTES = 23,       /* the format's count of extra bytes */
     LAS_REFUSED_VLR_DATA_LENGTH = 24,   /* the stated length */
@@ -592,12 +592,12 @@ void las_append_store(uint8_t *file, size_t file_len, const uint64_t sweep[8], c
  * degree; the value is 0. Refuses by its first field that does not fit with LAS_REFUSED_RETURN_NUMBER and
  * LAS_REFUSED_NUMBER_OF_RETURNS above 7; LAS_REFUSED_CLASS above 31; LAS_REFUSED_CHANNEL above 0; LAS_REFUSED_OVERLAP where
  * overlap is set and the class is not 12, or clear and it is 12 or 28; LAS_REFUSED_NIR where it is not 0; LAS_REFUSED_ANGLE
- * where the nearest whole degree is no rank. */
+ * where the nearest whole degree, or the rank, is not from -90 to 90: scaled numbers from -15,083 to 15,083 fit. */
 void las_strict_check(const uint64_t numbers[24], uint64_t row[3]);
 
 /* Makes an old point, one with two-byte flags, new in its place: the class is kept, overlap set exactly for class 12, the
  * other flags moved, the channel 0, the angle scaled, and there is no near infrared. A point with three-byte flags keeps its
- * values. */
+ * values. las_strict_check answers of the new point what it answers of an old one, which has no near infrared. */
 void las_strict_upgraded(uint64_t numbers[24]);
 
 /* Converts a run of count records of format 6 to 10, each with so many extra bytes, strictly into the old format of the pair

@@ -16,8 +16,8 @@ fn fits(new: &[u8; NEW]) -> bool {
         && class < 32
         && class != 28
         && (new[15] & 8 != 0) == (class == 12)
-        // whose nearest whole degree an i8 holds
-        && (-21_416..=21_249).contains(&scaled(new))
+        // whose nearest whole degree is from -90 to 90
+        && (-15_083..=15_083).contains(&scaled(new))
 }
 
 /// The angle of a new record in whole degrees, halves away from zero.

@@ -1,5 +1,5 @@
-//! Runs of point records, converted strictly and upgraded: by the port and by document 01's rules as
-//! `convert_model` has them.
+//! Runs of point records, converted strictly and upgraded: by the port and by the rules of documents 01
+//! and 02 as `convert_model` has them.
 
 use crate::{
     answer::Answer,
@@ -112,14 +112,14 @@ fn fitting_flags(k: u64) -> [u8; 3] {
     [returns, flags | u8::from(class == 12) << 3, class]
 }
 
-/// The least and the greatest angle that fit: document 01 names them and their neighbours.
-pub(crate) const LEAST: i16 = -21_416;
-pub(crate) const GREATEST: i16 = 21_249;
+/// The least and the greatest angle that fit: document 02, No. 2, names them and their neighbours.
+pub(crate) const LEAST: i16 = -15_083;
+pub(crate) const GREATEST: i16 = 15_083;
 
-/// Angles around those that document 01 names, and at the ends.
-const ANGLES: [i16; 19] = [
-    0, 83, 84, -83, -84, 249, 250, -249, -250, 21_249, 21_250, 21_251, -21_415, -21_416, -21_417,
-    1, -500, 32_767, -32_768,
+/// Angles around those that the documents name, and at the ends.
+const ANGLES: [i16; 23] = [
+    0, 83, 84, -83, -84, 249, 250, -249, -250, 15_083, 15_084, -15_083, -15_084, 21_249, 21_250,
+    21_251, -21_415, -21_416, -21_417, 1, -500, 32_767, -32_768,
 ];
 
 /// Near infrared: mostly none, for there would be little else.
@@ -228,7 +228,7 @@ impl<'a, L: Library> Comparison<'a, L> {
         self.run_into(shape, src, count, room, None);
     }
 
-    /// The same, and puts what the library wrote into `written`, if that is wanted.
+    /// The same, and puts what the library wrote into `written`, if that is wanted. The library's answer.
     fn run_into(
         &mut self,
         shape: Shape,
@@ -236,7 +236,7 @@ impl<'a, L: Library> Comparison<'a, L> {
         count: u64,
         room: usize,
         written: Option<&mut Vec<u8>>,
-    ) {
+    ) -> Answer {
         let Shape { way, format, extra } = shape;
         let end = room + SPARE;
         if self.rules.len() < end {
@@ -263,7 +263,7 @@ impl<'a, L: Library> Comparison<'a, L> {
             let at = expected.iter().zip(found).position(|(a, b)| a != b);
             let (size, first) = (src.len(), &src[..src.len().min(100)]);
             format!(
-                "{run:?}, {size} bytes {first:02x?}, room {room}: document 01 {rules}, port {port}, \
+                "{run:?}, {size} bytes {first:02x?}, room {room}: the rules {rules}, port {port}, \
                  first differing byte {at:?}, source kept {kept}"
             )
         });
@@ -281,6 +281,7 @@ impl<'a, L: Library> Comparison<'a, L> {
         }
         self.rules[..filled].fill(BEFORE_BYTE);
         self.by_port[..if same { filled } else { end }].fill(BEFORE_BYTE);
+        port
     }
 
     /// A run with just the room that it wants.
@@ -303,8 +304,8 @@ pub(crate) fn with_flags(
         let [a, b, c, ..] = k.to_le_bytes();
         record[FLAGS..][..3].copy_from_slice(&[a, b, c]);
         record[..4].copy_from_slice(&noise(k).to_le_bytes());
-        set_angle(record, ANGLES[(k % 19) as usize]);
-        set_nir(record, shape.format, NIRS[(k / 19 % 7) as usize]);
+        set_angle(record, ANGLES[(k % 23) as usize]);
+        set_nir(record, shape.format, NIRS[(k / 23 % 7) as usize]);
         each(record);
     }
 }
@@ -609,10 +610,12 @@ fn edges<L: Library>(library: &L, _: Lot) -> Outcome {
     formats.and(longest).and(counts)
 }
 
-/// All two-byte flags with all ranks, upgraded in runs of 256, and what came of it converted again: the
-/// bytes must be those that there were, but for class 28, which is refused.
+/// All two-byte flags with all ranks, upgraded in runs of 256, and what came of it converted again. Of
+/// the ranks within ±90, which stand first, the bytes must be those that there were; the whole run is
+/// refused for the first of the others, each of which is the first in its turn; and class 28 is refused.
 fn upgrades<L: Library>(library: &L, lot: Lot) -> Outcome {
-    const RANKS: u64 = 256;
+    const ALL: usize = 256;
+    const WITHIN: usize = 181;
     over(
         library,
         4 * (1 << 16) / lot.upgrades,
@@ -622,39 +625,61 @@ fn upgrades<L: Library>(library: &L, lot: Lot) -> Outcome {
             let extra = (i / 4 % 3) as u16;
             let (way, back) = (Up, Down);
             let shape = Shape { way, format, extra };
-            let [from, to] = shape.lengths().map(|length| length * RANKS as usize);
-            src.resize(from, 0);
+            let [from, to] = shape.lengths();
+            let mut ranks: Vec<i8> = (-90..=90).chain(-128..=-91).chain(91..=127).collect();
+            ranks[WITHIN..].rotate_left(i as usize / 4 % (ALL - WITHIN));
+            src.resize(from * ALL, 0);
             shape.fill(i, src);
-            for (rank, record) in (0..=255).zip(src.chunks_mut(from / RANKS as usize)) {
-                record[FLAGS..][..3].copy_from_slice(&[one, two, rank]);
+            for (&rank, record) in ranks.iter().zip(src.chunks_mut(from)) {
+                record[FLAGS..][..3].copy_from_slice(&[one, two, rank as u8]);
             }
-            let (mut upgraded, mut again) = (Vec::new(), Vec::new());
-            comparison.run_into(shape, src, RANKS, to, Some(&mut upgraded));
+            let mut upgraded = Vec::new();
+            comparison.run_into(shape, src, ALL as u64, to * ALL, Some(&mut upgraded));
             let shape = Shape {
                 way: back,
                 format: extended,
                 extra,
             };
-            comparison.run_into(shape, &upgraded, RANKS, from, Some(&mut again));
-            let same = match two & 31 {
-                28 => again.is_empty(),
-                _ => again == *src,
+            let mut again = |count: usize| {
+                let (src, room) = (&upgraded[..upgraded.len().min(to * count)], from * count);
+                let mut written = Vec::new();
+                let answer =
+                    comparison.run_into(shape, src, count as u64, room, Some(&mut written));
+                (answer, written)
             };
-            comparison.outcome.reports[2].check(same, || {
+            // "Rank r to scaled: 500r/3, fraction dropped"; 21 tells its 16 bits.
+            let scaled = (500 * i32::from(ranks[WITHIN]) / 3) as i16 as u16;
+            let refusal = |number, value, record| Answer {
+                number,
+                value,
+                record,
+            };
+            let (beyond, none) = again(ALL);
+            let (within, written) = again(WITHIN);
+            let same = match two & 31 {
+                28 => [beyond, within] == [refusal(19, 28, 1); 2] && written.is_empty(),
+                _ => {
+                    beyond == refusal(21, scaled.into(), WITHIN as u64 + 1)
+                        && written == src[..from * WITHIN]
+                }
+            };
+            comparison.outcome.reports[2].check(same && none.is_empty(), || {
                 format!(
-                    "format {format}, flags {one:#04x} {two:#04x}, {extra} extra bytes, all ranks"
+                    "format {format}, flags {one:#04x} {two:#04x}, {extra} extra bytes, all ranks, \
+                     {} the first beyond: {beyond}, and of those within {within}",
+                    ranks[WITHIN]
                 )
             });
         },
     )
 }
 
-/// Records of zeros but for flags and angle, in format 6, that document 01 describes one by one: both
-/// the rules and a library must answer what stands there.
+/// Records of zeros but for flags and angle, in format 6, that documents 01 and 02 describe one by one:
+/// both the rules and a library must answer what stands there.
 fn compare_described(library: &impl Library) -> Report {
-    let mut report = Report::new("runs that document 01 describes");
+    let mut report = Report::new("runs that the documents describe");
     let worked: Row = [0, 28, 0];
-    let described: [(_, i16, Row, _); 15] = [
+    let described: [(_, i16, Row, _); 19] = [
         ([0x21, 0x48, 2], 0, [19, 2, 1], None),
         ([0x11, 0, 2], 0, worked, Some(([0x09, 0x02], 0))),
         ([0x11, 0x08, 12], 0, worked, Some(([0x09, 0x0c], 0))),
@@ -666,10 +691,16 @@ fn compare_described(library: &impl Library) -> Report {
         ([0x11, 0, 2], 249, worked, Some(([0x09, 0x02], 1))),
         ([0x11, 0, 2], 250, worked, Some(([0x09, 0x02], 2))),
         ([0x11, 0, 2], -250, worked, Some(([0x09, 0x02], -2))),
-        ([0x11, 0, 2], 21_249, worked, Some(([0x09, 0x02], 127))),
+        // "So scaled 15,083 passes as 90 and 15,084 doesn't, and likewise below zero", and "01's
+        // strict cases at 21,249 and −21,416 become refusals".
+        ([0x11, 0, 2], 15_083, worked, Some(([0x09, 0x02], 90))),
+        ([0x11, 0, 2], 15_084, [21, 15_084, 1], None),
+        ([0x11, 0, 2], -15_083, worked, Some(([0x09, 0x02], -90))),
+        ([0x11, 0, 2], -15_084, [21, 50_452, 1], None),
+        ([0x11, 0, 2], 21_249, [21, 21_249, 1], None),
         ([0x11, 0, 2], 21_250, [21, 21_250, 1], None),
-        ([0x11, 0, 2], -21_416, worked, Some(([0x09, 0x02], -128))),
-        ([0x11, 0, 2], -21_417, [21, 65_536 - 21_417, 1], None),
+        ([0x11, 0, 2], -21_416, [21, 44_120, 1], None),
+        ([0x11, 0, 2], -21_417, [21, 44_119, 1], None),
     ];
     for (flags, angle, stated, record) in described {
         let mut src = [0; 30];

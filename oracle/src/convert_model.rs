@@ -1,11 +1,13 @@
-//! Document 01's rules about strict conversion and upgrade, written from its text alone: which runs
-//! of point records are refused, with what, and what is written of those that are not.
+//! Document 01's rules about strict conversion and upgrade, with document 02's on ranks, written from
+//! their text alone: which runs of point records are refused, with what, and what is written of those
+//! that are not.
 //!
 //! The Rust has no such calls, so that the port is compared with this. It shares nothing with the
 //! port but the text, and works on bytes, without the Rust's points too. Sums and products are
 //! taken in 128 bits, in which none of them wraps.
 
 use crate::{answer::Answer, file_model::POINT_BYTES};
+use std::ops::RangeInclusive;
 
 /// "Pairs down: 6 to 1, 7 to 3, 8 to 3, 9 to 4, 10 to 5."
 pub const DOWN: [(u8, u8); 5] = [(6, 1), (7, 3), (8, 3), (9, 4), (10, 5)];
@@ -110,6 +112,9 @@ pub fn rank(scaled: i16) -> i32 {
     n.signum() * ((6 * n.abs() + 500) / 1000)
 }
 
+/// Document 02, No. 2: "the standard's rank runs from −90 to 90".
+pub const RANKS: RangeInclusive<i32> = -90..=90;
+
 /// What keeps an extended record from being converted, and its value.
 fn offence(record: &[u8], format: u8) -> Option<(u64, u64)> {
     let flags = extended_flags(record);
@@ -141,7 +146,7 @@ fn offence(record: &[u8], format: u8) -> Option<(u64, u64)> {
         }
     }
     let scaled = u16_at(record, SCALED);
-    if !(-128..=127).contains(&rank(scaled as i16)) {
+    if !RANKS.contains(&rank(scaled as i16)) {
         return Some((21, scaled.into()));
     }
     None

@@ -1,5 +1,5 @@
 //! The plain conversion: a record read in one format and written in the other of its pair, by the port
-//! and by the Rust; and where document 01's strict conversion and upgrade part from it.
+//! and by the Rust; and where strict conversion and upgrade, of documents 01 and 02, part from it.
 
 use crate::{
     answer::Answer,
@@ -80,7 +80,7 @@ impl Scratch {
         }
     }
 
-    /// Whether strict and plain part only as document 01 lets them: down, where plain goes on after a
+    /// Whether strict and plain part only as the documents let them: down, where plain goes on after a
     /// refusal with 19 to 21; up, in the flags.
     fn part_as_stated(&self, shape: Shape, strict: Answer, plain: Answer) -> bool {
         let apart_from_flags = |record: &[u8]| {
@@ -331,20 +331,25 @@ fn table() -> String {
     }
     set_nir(&mut record, down.format, 0);
 
-    let mut above = Line::new("rank above 127", "of 2^16 angles", "");
-    let mut below = Line::new("rank below -128", "of 2^16 angles", "");
+    const OF_ANGLES: &str = "of 2^16 angles";
+    let mut above = Line::new("rank above 90", OF_ANGLES, ": up to 127, where it is held");
+    let mut below = Line::new(
+        "rank below -90",
+        OF_ANGLES,
+        ": down to -128, where it is held",
+    );
     for n in (0..=i16::MAX).chain((i16::MIN..0).rev()) {
         set_angle(&mut record, n);
         let (both, same) = scratch.both(down, &record);
         if !same {
             let line = if n > 0 { &mut above } else { &mut below };
             let [strictly, _] = scratch.in_words(both, 2);
-            let held = scratch.rust[FLAGS + 2] as i8;
+            let plain = scratch.rust[FLAGS + 2] as i8;
             line.count(|| {
                 [
                     format!("angle {}", signed(n)),
                     strictly,
-                    format!("rank {held}"),
+                    format!("rank {plain}"),
                 ]
             });
         }

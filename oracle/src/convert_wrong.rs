@@ -20,6 +20,10 @@ errors! {
     NirZeroRefused,
     NirOfBluesPlace,
     RankHeld,
+    RankHeldAt90,
+    Rank91LetThrough,
+    NinetyAboveZeroOnly,
+    EveryRankOfAnI8,
     RankHalvesTowardZero,
     RankFractionDropped,
     AngleValueSigned,
@@ -167,8 +171,12 @@ impl StandIn {
             _ => degrees.round(),
         };
         let angle = match rank {
-            -128.0..=127.0 => Ok(rank as i8),
+            -90.0..=90.0 => Ok(rank as i8),
+            91.0 if self.has(Rank91LetThrough) => Ok(rank as i8),
+            -128.0..=0.0 if self.has(NinetyAboveZeroOnly) => Ok(rank as i8),
+            -128.0..=127.0 if self.has(EveryRankOfAnI8) => Ok(rank as i8),
             _ if self.has(RankHeld) => Ok(rank as i8),
+            _ if self.has(RankHeldAt90) => Ok(rank.clamp(-90.0, 90.0) as i8),
             _ if self.has(AngleValueSigned) => Err([21, bits as i16 as u64]),
             _ => Err([21, bits.into()]),
         };

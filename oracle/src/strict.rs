@@ -1,12 +1,13 @@
-//! One point made old strictly, or made new: by the port and by document 01's rules, which the Rust
-//! has no calls for. What a point holds is read by the Rust's own readers.
+//! One point made old strictly, or made new: by the port and by the rules of documents 01 and 02, which
+//! the Rust has no calls for. What a point holds is read by the Rust's own readers.
 
 use crate::{
     angle,
     answer::Answer,
     call::noise,
     capi::{self, PointNumbers},
-    convert_model, flags,
+    convert_model::{self, RANKS},
+    flags,
     point::{self, HAS_NIR, NIR, any_angle, nth_numbers},
     report::{Report, Tally},
 };
@@ -28,7 +29,8 @@ fn class(flags: Flags) -> u8 {
 
 /// The first field that an old record can't show: "return number above 7; number of returns above 7;
 /// class above 31; channel above 0; overlap set and class not 12, or clear and class 12 or 28; NIR not
-/// 0; rank before holding outside −128 to 127".
+/// 0; rank before holding outside" what document 02 has. A rank has no other limits, and its value is
+/// that of the scaled angle which the Rust makes of it.
 pub(crate) fn offence(point: &Point) -> Answer {
     let flags = point.flags;
     let (number, returns) = (flags.return_number(), flags.number_of_returns());
@@ -37,10 +39,12 @@ pub(crate) fn offence(point: &Point) -> Answer {
         true => class != 12,
         false => class == 12 || class == 28,
     };
-    let angle = match point.scan_angle {
-        ScanAngle::Scaled(n) if i8::try_from(convert_model::rank(n)).is_err() => Some(n as u16),
-        _ => None,
+    let rank = match point.scan_angle {
+        ScanAngle::Rank(n) => n.into(),
+        ScanAngle::Scaled(n) => convert_model::rank(n),
     };
+    let scaled = i16::from(point.scan_angle) as u16;
+    let angle = (!RANKS.contains(&rank)).then_some(scaled);
     match (point.nir, angle) {
         _ if number > 7 => Answer::refusal(15, number),
         _ if returns > 7 => Answer::refusal(16, returns),
@@ -83,7 +87,7 @@ fn check(report: &mut Report, numbers: &PointNumbers) {
     let rules = offence(&point::point(numbers, &[]));
     let port = capi::row(|row| capi::las_strict_check(numbers, row));
     report.check(rules == port, || {
-        format!("{numbers:x?}: document 01 {rules}, port {port}")
+        format!("{numbers:x?}: the rules {rules}, port {port}")
     });
     report.by_rule(true);
 }
@@ -160,7 +164,7 @@ fn with_angle(i: u64) -> PointNumbers {
 
 /// Flags that fit with each near infrared, and an angle that fits or not.
 fn with_nir(i: u64) -> PointNumbers {
-    let angle = angle::scaled([0, 21_250][(i >> 18) as usize]);
+    let angle = angle::scaled([0, 15_084][(i >> 18) as usize]);
     with(fitting(i), angle, Some((i >> 2) as u16))
 }
 

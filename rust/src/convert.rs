@@ -23,7 +23,8 @@ pub struct Run<'a> {
 
 impl Run<'_> {
     /// Converts the run strictly to the old format of its pair, at the front of `dst`, and answers how many bytes that is:
-    /// an old reader finds in every record the same value in every field, the scan angle to the nearest whole degree.
+    /// an old reader finds in every record the same value in every field, the scan angle to the nearest whole degree, which
+    /// is from -90 to 90 as the standard has it.
     ///
     /// Where that cannot be, the first record and its first field that does not fit are named (15 to 21), and `dst` is left
     /// as it was. It is also refused with 26 where the format has no pair, with 8 where a record would be overlong, with 1
@@ -150,16 +151,18 @@ mod tests {
         assert_eq!(converted(249), Ok(1));
         assert_eq!(converted(250), Ok(2));
         assert_eq!(converted(-250), Ok(-2));
-        assert_eq!(converted(21_249), Ok(127));
-        assert_eq!(converted(21_250), Err((21, 21_250)));
-        assert_eq!(converted(-21_416), Ok(-128));
-        assert_eq!(converted(-21_417), Err((21, 65_536 - 21_417)));
+        assert_eq!(converted(15_083), Ok(90));
+        assert_eq!(converted(15_084), Err((21, 15_084)));
+        assert_eq!(converted(-15_083), Ok(-90));
+        assert_eq!(converted(-15_084), Err((21, 50_452)));
+        assert_eq!(converted(21_249), Err((21, 21_249)));
+        assert_eq!(converted(-21_416), Err((21, 44_120)));
     }
 
     #[test]
     fn up_and_down_again() {
         let mut records = record(1, TwoByte(0x51, 0x22), ScanAngle::Rank(-90), None);
-        records.extend(record(1, TwoByte(0xc9, 0x0c), ScanAngle::Rank(127), None));
+        records.extend(record(1, TwoByte(0xc9, 0x0c), ScanAngle::Rank(90), None));
         let new = run(1, &records, 2).to_new().unwrap();
         assert_eq!(new.len(), 2 * 31);
         assert_eq!(new[14..17], [0x21, 0x41, 0x02]);
@@ -177,6 +180,20 @@ mod tests {
         let new = run(5, &old, 1).to_new().unwrap();
         assert_eq!(new, zero);
         assert_eq!(Point::read(&new, ten).unwrap().nir, Some(0));
+    }
+
+    #[test]
+    fn what_does_not_come_down_again() {
+        let again = |class, rank| {
+            let records = record(1, TwoByte(0x09, class), ScanAngle::Rank(rank), None);
+            let new = run(1, &records, 1).to_new().unwrap();
+            let refusal = run(6, &new, 1).to_old().unwrap_err();
+            (refusal.number(), refusal.value(), refusal.record())
+        };
+        assert_eq!(again(2, 91), (21, 15_166, 1));
+        assert_eq!(again(2, -91), (21, 50_370, 1));
+        assert_eq!(again(2, 104), (21, 17_333, 1));
+        assert_eq!(again(28, 0), (19, 28, 1));
     }
 
     #[test]

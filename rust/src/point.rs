@@ -114,7 +114,7 @@ impl<'a> Point<'a> {
     }
 
     /// That the point goes into an old format with every field the same for an old reader; else the first field that does
-    /// not, as [`Run::to_old`] judges each record.
+    /// not, as [`Run::to_old`] judges each record. A rank is judged as the scaled angle that it is upgraded to.
     ///
     /// [`Run::to_old`]: crate::Run::to_old
     pub fn check_old(&self) -> Result<(), Refusal> {
@@ -323,5 +323,17 @@ mod tests {
         assert_eq!(new.extra_bytes, b"xy");
         assert_eq!(new.upgraded(), new);
         assert_eq!(new.check_old(), Ok(()));
+    }
+
+    #[test]
+    fn a_rank_is_judged_as_what_it_is_upgraded_to() {
+        for rank in i8::MIN..=i8::MAX {
+            let old = Point {
+                scan_angle: ScanAngle::Rank(rank),
+                ..Point::default()
+            };
+            assert_eq!(old.check_old().is_ok(), (-90..=90).contains(&rank));
+            assert_eq!(old.check_old(), old.upgraded().check_old());
+        }
     }
 }

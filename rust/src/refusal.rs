@@ -48,7 +48,7 @@ pub enum Kind {
     Overlap,
     /// 20: near infrared, which the old format does not have.
     Nir,
-    /// 21: a scan angle that is no rank of the old formats.
+    /// 21: a scan angle that, rounded, is not from -90 to 90, as the ranks of the old formats are.
     Angle,
     /// 22: the destination or the table is too small.
     NoRoom,
@@ -405,7 +405,7 @@ impl fmt::Display for Refusal {
                 let (whole, rest) = (thousandths.abs() / 1000, thousandths.abs() % 1000);
                 write!(
                     f,
-                    "{point}the scan angle is {sign}{whole}.{rest:03} degrees: rounded, it must be -128 to 127 in the \
+                    "{point}the scan angle is {sign}{whole}.{rest:03} degrees: rounded, it must be -90 to 90 in the \
                      old point formats"
                 )
             }
@@ -515,8 +515,11 @@ mod tests {
         assert!(words(19, 2, 41).starts_with("point 41: the overlap flag on class 2"));
         assert!(words(19, 12, 1).contains("class 12 without the overlap flag"));
         assert!(words(19, 28, 1).contains("class 28"));
-        assert!(words(21, 21_250, 9).contains("is 127.500 degrees"));
-        assert!(words(21, 65_536 - 21_417, 9).contains("is -128.502 degrees"));
+        assert_eq!(
+            words(21, 15_084, 9),
+            "point 9: the scan angle is 90.504 degrees: rounded, it must be -90 to 90 in the old point formats"
+        );
+        assert!(words(21, 65_536 - 15_084, 9).contains("is -90.504 degrees"));
         assert!(words(21, 65_535, 9).contains("is -0.006 degrees"));
         assert!(words(8, 70_000, 0).contains("would have 70000 bytes"));
         assert!(words(8, 19, 0).contains("record length (header byte 105) is 19"));
