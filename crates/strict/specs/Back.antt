@@ -186,7 +186,7 @@ module _ (old : Format) (is-old : old .«is_extended» ≡ false) (without : old
 
 -- an old record of zeros up to its rank, which is 104, shows what it is brought up to, and that is refused
 module _ (old : Format) (is-old : old .«is_extended» ≡ false) (without : old .«has_nir» ≡ false) (rest : List ℕ) where
-  abbrev pub ranked : List ℕ
+  abbrev ranked : List ℕ
   ranked = replicate 16 0 ++ (104 ∷ rest)
 
   flags-0 : pointOf old ranked .flags ≡ TwoByte 0 0

@@ -40,7 +40,7 @@ use Rattle.strict.specs.Shown.{nirNumber, Same, Within90, Never, Unshown
 use Rattle.strict.specs.Whole.{same-within}
 use Rattle.strict.specs.First.{FirstField, first-named}
 use Rattle.strict.specs.Named.{refusal-named, unshown-never}
-use Rattle.strict.specs.Back.{upgraded-judged, record-fits, ranked, ranked-refused, ranked-shows}
+use Rattle.strict.specs.Back.{upgraded-judged, record-fits, ranked-refused, ranked-shows}
 use Rattle.strict.specs.Record.{image-same, image-bytes, image-back}
 
 module _ (new old : Format) (pair : Paired new old) (s : List ℕ) (all : le.Bytes s) (rest : List ℕ) where
@@ -96,12 +96,11 @@ module _ (new old : Format) (pair : Paired new old) where
         go Fits e = e
         go (Refused why) e = absurd (no-old-record-shows-it why e t bytes (within, same))
 
-  -- Of every old record this would be false: one can hold rank 104, whatever follows it, and shows a point that is refused.
-  pub rank-104-shows-a-refused-point : (rest : List ℕ) → le.Bytes rest → (p : Point) × (t : List ℕ) × le.Bytes t × Same p (pointOf old t) × (fitOf p ≡ Refused (Angle 17333))
+  -- Of every old record this would be false: one of zeros and rank 104, whatever follows, shows a point that is refused.
+  pub rank-104-shows-a-refused-point : (rest : List ℕ) → le.Bytes rest → le.Bytes (replicate 16 0 ++ (104 ∷ rest)) × (p : Point) × Same p (pointOf old (replicate 16 0 ++ (104 ∷ rest))) × (fitOf p ≡ Refused (Angle 17333))
   rank-104-shows-a-refused-point rest bytes = (
-    _,
-    ranked old (pair .is-old) (pair .no-nir) rest,
     both-made (replicate 16 0) (104 ∷ rest) (zeros-made 16) (one-made 104 rest (omega arith) bytes),
+    _,
     ranked-shows old (pair .is-old) (pair .no-nir) rest,
     ranked-refused old (pair .is-old) (pair .no-nir) rest,
   )
