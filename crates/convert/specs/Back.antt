@@ -17,18 +17,18 @@ use Rattle.point.specs.Read.{pointOf}
 use Rattle.strict.specs.declared.Fit.the-variants as fit
 use Rattle.strict.specs.Fit.{fitOf}
 use Rattle.strict.specs.Shown.{Within90, upImage}
-use Rattle.pairs.specs.Paired.{Paired}
+use Rattle.pairs.specs.Paired.{Paired, shorter}
 use Rattle.strict.specs.Theorems.{down-again-exactly, up-and-down}
 use Rattle.convert.specs.declared.Converted.the-variants as converted
 use Rattle.pairs.specs.Pairs.{formatWith}
 use Rattle.judge.specs.Judge.{judgedOf}
-use Rattle.convert.specs.Run.{imageOf, imagesOf, convertedOf, toOldOf, toNewOf}
+use Rattle.convert.specs.Run.{imageOf, imagesOf, toOldOf, toNewOf}
 use Rattle.pairs.specs.Sound.{Sound, not-up}
 use Rattle.convert.specs.Asked.{Takes}
 use Rattle.convert.specs.Demand.{Up, lengthOf, runLength, nth, pointAt, NotOverlong, Enough, No28, AllWithin90, laid}
 use Rattle.judge.specs.Laws.{goes}
 use Rattle.convert.specs.Laws.{image-length, images-length, takes-new}
-use Rattle.convert.specs.Told.{planOf, told-run, told-bytes, plan-of-sound, shorter, down-paired, up-told, way-back}
+use Rattle.convert.specs.Told.{planOf, convertedOf, told-run, told-bytes, plan-of-sound, down-paired, up-told, way-back}
 use Rattle.convert.specs.Each.{at-zero, at-suc, nth-length, image-at, Written, written}
 use Rattle.convert.specs.Exact.{converted-then, then-converted}
 
@@ -99,7 +99,7 @@ module _ {old new : ℕ} (pair : Up old new) (extra : ℕ) where
     upgrade-answered long enough =
         let a = formatWith old extra in
         let b = formatWith new extra in
-        let short : lengthOf old extra ≤ 65535 = omega (arith, shorter b a paired) in (
+        let short : lengthOf old extra ≤ 65535 = omega (arith, shorter b a paired .0) in (
           imagesOf true (planOf a b) count s ++ drop (runLength new extra count) d,
           up-told pair extra count s d
               ∙ told-run true a b count s d short long
@@ -113,7 +113,7 @@ module _ {old new : ℕ} (pair : Up old new) (extra : ℕ) where
           ((ran .0, ran .1), written true _ count s d (ran .2))
 
       there : runLength old extra count ≤ length s
-      there = goes true (planOf (formatWith old extra) (formatWith new extra)) count s (length d) (upgraded .1 .fits) .there
+      there = goes true (planOf (formatWith old extra) (formatWith new extra)) count s (upgraded .1 .fits) .there
 
       each-again : (k : ℕ) → k < count → (fitOf (pointAt new extra k e) ≡ fit.Fits) ↔ Comes (nth (lengthOf old extra) k s)
       each-again k l =

@@ -1,6 +1,7 @@
 -- The words that demand 3 is stated in: pairs of codes, the records of a run, and why a run is refused.
 use Prim.Native.Nat.{ℕ, suc, _*_, _≤_, _<_}
 use mathlib.Core.Path.{_≡_}
+use mathlib.Core.Bool.{Bool, true, false}
 use mathlib.Core.List.{List, _++_}
 use lib.ListN.{length, take, drop}
 use Rattle.refusal.specs.declared.Refusal.{Refusal}
@@ -17,6 +18,19 @@ use Rattle.strict.specs.Fit.{fitOf}
 use Rattle.strict.specs.Shown.{Same, Within90, Never, Unshown}
 use Rattle.strict.specs.First.{FirstField}
 use Rattle.pairs.specs.Pairs.{formatWith}
+use Rattle.judge.specs.declared.Verdict.{Verdict}
+use Rattle.judge.specs.Judge.{oldVerdict, newVerdict}
+use Rattle.convert.specs.declared.Converted.{Converted}
+use Rattle.convert.specs.Run.{toOldOf, toNewOf}
+
+-- the question and the writing call of either way: strictly down, or up
+abbrev pub askOf : Bool → ℕ → ℕ → ℕ → List ℕ → Verdict
+askOf false code extra count s = oldVerdict code extra count s
+askOf true code extra count s = newVerdict code extra count s
+
+abbrev pub convertOf : Bool → ℕ → ℕ → ℕ → List ℕ → List ℕ → Converted × List ℕ
+convertOf false code extra count s d = toOldOf code extra count s d
+convertOf true code extra count s d = toNewOf code extra count s d
 
 -- "Pairs down: 6 to 1, 7 to 3, 8 to 3, 9 to 4, 10 to 5"
 pub data Down : ℕ → ℕ → Type 0 where
@@ -111,8 +125,8 @@ module _ (code extra count : ℕ) (s d : List ℕ) where
     pub enough : Enough code old extra count s d
     pub all-fit : AllFit code extra count s
 
-  -- "order: no pair 26; source, then target record over 65,535 bytes 8; source short 1; destination short 22. Then records in turn":
-  -- what a run is refused with, and the record's number, which is 0 where it is no record's
+  -- "order: no pair 26; source, then target record over 65,535 bytes 8; source short 1 .. Then records in turn", and document 02, No. 10: "22
+  -- now comes after the record checks". What a run is refused with, and the record's number, which is 0 where it is no record's
   pub data RefusedFor : Refusal → ℕ → Type 0 where
     no-pair : ((old : ℕ) → Down code old → ⊥) → RefusedFor (NoPair code) 0
     source-overlong : {old : ℕ} → Down code old → 65535 < lengthOf code extra → RefusedFor (RecordLength (lengthOf code extra)) 0
@@ -122,10 +136,11 @@ module _ (code extra count : ℕ) (s d : List ℕ) where
     source-short :
         {old : ℕ} → Down code old → NotOverlong code old extra → length s < runLength code extra count
         → RefusedFor (Short (wantedOf (runLength code extra count))) 0
-    no-room :
-        {old : ℕ} → Down code old → NotOverlong code old extra → runLength code extra count ≤ length s → length d < runLength old extra count
-        → RefusedFor (NoRoom (wantedOf (runLength old extra count))) 0
     of-record :
-        {old k : ℕ} {why : Refusal} → Down code old → NotOverlong code old extra → Enough code old extra count s d → k < count
+        {old k : ℕ} {why : Refusal} → Down code old → NotOverlong code old extra → runLength code extra count ≤ length s → k < count
         → AllFit code extra k s → fitOf (pointAt code extra k s) ≡ fit.Refused why
         → RefusedFor why (suc k)
+    no-room :
+        {old : ℕ} → Down code old → NotOverlong code old extra → runLength code extra count ≤ length s → AllFit code extra count s
+        → length d < runLength old extra count
+        → RefusedFor (NoRoom (runLength old extra count)) 0

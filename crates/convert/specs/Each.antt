@@ -1,10 +1,12 @@
 -- Laws of a run's records, one by one: which fit, which is refused first, and where the image of each stands.
 use Prim.Native.Nat.{ℕ, zero, suc, _+_, _*_, _≤_, _<_}
 use mathlib.Core.Path.{_≡_, refl, ap, sym, subst, _∙_}
-use mathlib.Core.Bool.{Bool, false}
+use mathlib.Core.Bool.{Bool, true, false, cond}
 use mathlib.Core.List.{List, [], _++_, append-assoc, append-nil}
 use native.Mathlib.Nat.{zero-mul, suc-mul, mul-le-mul-right}
 use native.Mathlib.Omega.{arith}
+use borrow.Author.Tests.{ltb-false}
+use lib.Dec.{ltb}
 use lib.ListN.{length, take, drop, length-drop}
 use lib.Seq.{take-at, drop-at, drop-drop, length-take-le}
 use Rattle.refusal.specs.declared.Refusal.{Refusal}
@@ -25,8 +27,9 @@ use Rattle.judge.specs.declared.Judged.{Judged}
 use Rattle.judge.specs.declared.Judged.the-variants as judged
 use Rattle.convert.specs.declared.Converted.{Converted}
 use Rattle.convert.specs.declared.Converted.the-variants as converted
-use Rattle.judge.specs.Judge.{judgedBy, judgeRun, judgedOf}
-use Rattle.convert.specs.Run.{turnedOf, imageOf, imagesOf, ran, convertedOf}
+use Rattle.judge.specs.Judge.{judgedBy, judgeRun, judgedOf, verdictOn}
+use Rattle.convert.specs.Run.{turnedOf, imageOf, imagesOf, doneOf}
+use Rattle.convert.specs.Told.{convertedOf, not-bytes}
 use Rattle.pairs.specs.Sound.{Sound}
 use Rattle.convert.specs.Asked.{Takes, TakesRun}
 use Rattle.convert.specs.Demand.{nth}
@@ -160,35 +163,37 @@ module _ (up : Bool) (p : Plan) (sound : Sound up p) where
       let image = each-image k count s rest t h l in
       ap (take n) (image .1) ∙ take-at (imageOf up p (nth m k s)) (image .0) n (image-length up p sound (nth m k s) (nth-length m k count s l h) takes)
 
--- a run that is converted was judged to fit, and its images stand before what was there
+-- a run that is converted was judged to fit and had room, and its images stand before what was there
 module _ (up : Bool) (p : Plan) (count : ℕ) (s d : List ℕ) where
   pub record Written (n : ℕ) (e : List ℕ) : Type 0 where
-    pub fits : judgedOf up p count s (length d) ≡ judged.Fits
+    pub fits : judgedOf up p count s ≡ judged.Fits
+    pub room : count * p .«target_length» ≤ length d
     pub many : n ≡ count * p .«target_length»
     pub stands : e ≡ imagesOf up p count s ++ drop (count * p .«target_length») d
 
   pub written : {n : ℕ} {e : List ℕ} → convertedOf up p count s d ≡ (converted.Bytes n, e) → Written n e
   unfolding convertedOf
-  written {n} {e} = go (judgedOf up p count s (length d)) refl
+  written {n} {e} = go (judgedOf up p count s) refl
     where
-      go : (w : Judged) → judgedOf up p count s (length d) ≡ w → ran w (imagesOf up p count s) (count * p .«target_length») d ≡ (converted.Bytes n, e) → Written n e
-      go judged.Fits f h =
+      laid : judgedOf up p count s ≡ judged.Fits → (t : Bool) → ltb (length d) (count * p .«target_length») ≡ t → (r : Refusal) → _≡_ {A = Converted × List ℕ} (cond t (converted.Refused r 0, d) (converted.Bytes (count * p .«target_length»), imagesOf up p count s ++ drop (count * p .«target_length») d)) (converted.Bytes n, e) → Written n e
+      laid f true t r h = not-bytes r 0 n d e h
+      laid f false t r h =
           let q = ap (λ (w : Converted × List ℕ). w .0) h in
-          record { fits = f; many = cc; stands = sym (ap (λ (w : Converted × List ℕ). w .1) h) }
-      go (judged.Refused r k) f h =
-          let q = ap (λ (w : Converted × List ℕ). w .0) h in
-          let z : _≡_ {A = ℕ} 0 1 = cc in
-          absurd (omega arith)
+          record { fits = f; room = ltb-false _ _ t; many = cc; stands = sym (ap (λ (w : Converted × List ℕ). w .1) h) }
+
+      go : (w : Judged) → judgedOf up p count s ≡ w → doneOf up count s d (verdictOn p count w) ≡ (converted.Bytes n, e) → Written n e
+      go judged.Fits f h = laid f (ltb (length d) (count * p .«target_length»)) refl _ h
+      go (judged.Refused r k) f h = not-bytes r k n d e h
 
 -- an old reader finds in the place of each image what the record there says
-module _ (p : Plan) (sound : Sound false p) (pair : Paired (p .source) (p .target)) (count : ℕ) (s d : List ℕ) (bytes : le.Bytes s) (fits : judgedOf false p count s (length d) ≡ judged.Fits) where
+module _ (p : Plan) (sound : Sound false p) (pair : Paired (p .source) (p .target)) (count : ℕ) (s d : List ℕ) (bytes : le.Bytes s) (fits : judgedOf false p count s ≡ judged.Fits) where
   pub each-shown : {e : List ℕ} → e ≡ imagesOf false p count s ++ drop (count * p .«target_length») d → (k : ℕ) → k < count → Same (pointOf (p .source) (nth (p .«source_length») k s)) (pointOf (p .target) (nth (p .«target_length») k e)) × (fieldOf (p .target) ExtraBytes (nth (p .«target_length») k e) ≡ fieldOf (p .source) ExtraBytes (nth (p .«source_length») k s))
   unfolding imageOf
   each-shown {e} is k l =
       let m = p .«source_length» in
       let n = p .«target_length» in
       let r = nth m k s in
-      let g = goes false p count s (length d) fits in
+      let g = goes false p count s fits in
       let long : length r ≡ m = nth-length m k count s l (g .there) in
       let own = fits-each (p .source) m 1 count s (g .records) k l in
       let image = image-at false p sound k count s (drop (count * n) d) (takes-all false p sound count s (g .records)) (g .there) l (λ _. own) in

@@ -17,11 +17,11 @@ use Rattle.judge.specs.declared.Judged.the-variants as judged
 use Rattle.convert.specs.declared.Converted.{Converted}
 use Rattle.convert.specs.declared.Converted.the-variants as converted
 use Rattle.pairs.specs.Pairs.{formatWith}
-use Rattle.judge.specs.Judge.{judgeRun, judgedOf}
-use Rattle.convert.specs.Run.{imagesOf, ran, convertedOf, toOldOf}
-use Rattle.convert.specs.Demand.{Down, lengthOf, runLength, NotOverlong, Convertible, RefusedFor, no-pair, source-overlong, target-overlong, source-short, no-room, of-record}
+use Rattle.judge.specs.Judge.{judgeRun, judgedOf, verdictOn}
+use Rattle.convert.specs.Run.{imagesOf, doneOf, toOldOf}
+use Rattle.convert.specs.Demand.{Down, lengthOf, runLength, NotOverlong, Convertible, RefusedFor, no-pair, source-overlong, target-overlong, source-short, of-record, no-room}
 use Rattle.judge.specs.Laws.{goes}
-use Rattle.convert.specs.Told.{planOf, told, Tells, source-over, target-over, runs, tells, told-run, told-bytes, not-bytes, down-told, pair-or-none, none-told}
+use Rattle.convert.specs.Told.{planOf, convertedOf, told, Tells, source-over, target-over, runs, tells, told-run, told-bytes, not-bytes, down-told, pair-or-none, none-told}
 use Rattle.convert.specs.Each.{fits-each, all-fit, first-refused, refused-at, written}
 
 module _ (code extra count : ℕ) (s d : List ℕ) where
@@ -34,8 +34,9 @@ module _ (code extra count : ℕ) (s d : List ℕ) where
           let a = formatWith code extra in
           let b = formatWith old extra in
           let run = told-bytes false a b count s d (sym (down-told pair extra count s d) ∙ h) in
-          let g = goes false (planOf a b) count s (length d) (written false (planOf a b) count s d (run .2) .fits) in
-          record { old = old; pair = pair; not-overlong = (run .0, run .1); enough = (g .there, g .fits); all-fit = fits-each a (lengthOf code extra) 1 count s (g .records) }
+          let w = written false (planOf a b) count s d (run .2) in
+          let g = goes false (planOf a b) count s (w .fits) in
+          record { old = old; pair = pair; not-overlong = (run .0, run .1); enough = (g .there, w .room); all-fit = fits-each a (lengthOf code extra) 1 count s (g .records) }
 
   pub then-converted : (c : Convertible code extra count s d) → toOldOf code extra count s d ≡ (converted.Bytes (runLength (c .old) extra count), imagesOf false (planOf (formatWith code extra) (formatWith (c .old) extra)) count s ++ drop (runLength (c .old) extra count) d)
   unfolding convertedOf judgedOf
@@ -44,7 +45,7 @@ module _ (code extra count : ℕ) (s d : List ℕ) where
       let b = formatWith (c .old) extra in
       down-told (c .pair) extra count s d
       ∙ told-run false a b count s d (c .not-overlong .0) (c .not-overlong .1)
-      ∙ rw (le-ltb (length s) (runLength code extra count) (c .enough .0), le-ltb (length d) (runLength (c .old) extra count) (c .enough .1), all-fit a (lengthOf code extra) 1 count s (c .all-fit))
+      ∙ rw (le-ltb (length s) (runLength code extra count) (c .enough .0), all-fit a (lengthOf code extra) 1 count s (c .all-fit), le-ltb (length d) (runLength (c .old) extra count) (c .enough .1))
 
   -- a refusal that is the one found is told, with the destination as it was
   same-refusal : {why r : Refusal} {i j : ℕ} {e : List ℕ} → RefusedFor code extra count s d why i → _≡_ {A = Converted × List ℕ} (converted.Refused why i, d) (converted.Refused r j, e) → RefusedFor code extra count s d r j × (e ≡ d)
@@ -56,21 +57,24 @@ module _ (code extra count : ℕ) (s d : List ℕ) where
 
   -- of a pair: the tests in their order
   module _ {old : ℕ} (pair : Down code old) {r : Refusal} {j : ℕ} {e : List ℕ} where
-    record-refused : NotOverlong code old extra → runLength code extra count ≤ length s → runLength old extra count ≤ length d → (w : Judged) → judgeRun (formatWith code extra) (lengthOf code extra) 1 count s ≡ w → ran w (imagesOf false (planOf (formatWith code extra) (formatWith old extra)) count s) (runLength old extra count) d ≡ (converted.Refused r j, e) → RefusedFor code extra count s d r j × (e ≡ d)
-    record-refused long there room judged.Fits f h = not-bytes r j _ e _ (sym h)
-    record-refused long there room (judged.Refused why i) f h =
+    room-refused : NotOverlong code old extra → runLength code extra count ≤ length s → judgeRun (formatWith code extra) (lengthOf code extra) 1 count s ≡ judged.Fits → (t : Bool) → ltb (length d) (runLength old extra count) ≡ t → (images : List ℕ) → _≡_ {A = Converted × List ℕ} (cond t (converted.Refused (NoRoom (runLength old extra count)) 0, d) (converted.Bytes (runLength old extra count), images)) (converted.Refused r j, e) → RefusedFor code extra count s d r j × (e ≡ d)
+    room-refused long there f true t images h = same-refusal (no-room pair long there (fits-each (formatWith code extra) (lengthOf code extra) 1 count s f) (ltb-true _ _ t)) h
+    room-refused long there f false t images h = not-bytes r j _ e _ (sym h)
+
+    record-refused : NotOverlong code old extra → runLength code extra count ≤ length s → (w : Judged) → judgeRun (formatWith code extra) (lengthOf code extra) 1 count s ≡ w → doneOf false count s d (verdictOn (planOf (formatWith code extra) (formatWith old extra)) count w) ≡ (converted.Refused r j, e) → RefusedFor code extra count s d r j × (e ≡ d)
+    record-refused long there judged.Fits f h = room-refused long there f (ltb (length d) (runLength old extra count)) refl _ h
+    record-refused long there (judged.Refused why i) f h =
         let w = first-refused (formatWith code extra) (lengthOf code extra) 1 count s f in
         let number : suc (w .others) ≡ i = omega (arith, w .numbered) in
-        same-refusal (subst (λ (k : ℕ). RefusedFor code extra count s d why k) number (of-record pair long (there, room) (w .within) (w .earlier) (w .refused))) h
+        same-refusal (subst (λ (k : ℕ). RefusedFor code extra count s d why k) number (of-record pair long there (w .within) (w .earlier) (w .refused))) h
 
     run-refused : NotOverlong code old extra → convertedOf false (planOf (formatWith code extra) (formatWith old extra)) count s d ≡ (converted.Refused r j, e) → RefusedFor code extra count s d r j × (e ≡ d)
     unfolding convertedOf judgedOf
-    run-refused long = go (ltb (length s) (runLength code extra count)) (ltb (length d) (runLength old extra count)) refl refl
+    run-refused long = go (ltb (length s) (runLength code extra count)) refl
       where
-        go : (x y : Bool) → ltb (length s) (runLength code extra count) ≡ x → ltb (length d) (runLength old extra count) ≡ y → ran (cond x (judged.Refused (Short (wantedOf (runLength code extra count))) 0) (cond y (judged.Refused (NoRoom (wantedOf (runLength old extra count))) 0) (judgeRun (formatWith code extra) (lengthOf code extra) 1 count s))) (imagesOf false (planOf (formatWith code extra) (formatWith old extra)) count s) (runLength old extra count) d ≡ (converted.Refused r j, e) → RefusedFor code extra count s d r j × (e ≡ d)
-        go true y f g h = same-refusal (source-short pair long (ltb-true _ _ f)) h
-        go false true f g h = same-refusal (no-room pair long (ltb-false _ _ f) (ltb-true _ _ g)) h
-        go false false f g h = record-refused long (ltb-false _ _ f) (ltb-false _ _ g) _ refl h
+        go : (x : Bool) → ltb (length s) (runLength code extra count) ≡ x → doneOf false count s d (verdictOn (planOf (formatWith code extra) (formatWith old extra)) count (cond x (judged.Refused (Short (wantedOf (runLength code extra count))) 0) (judgeRun (formatWith code extra) (lengthOf code extra) 1 count s))) ≡ (converted.Refused r j, e) → RefusedFor code extra count s d r j × (e ≡ d)
+        go true f h = same-refusal (source-short pair long (ltb-true _ _ f)) h
+        go false f h = record-refused long (ltb-false _ _ f) _ refl h
 
     pair-refused : told false (formatWith code extra) (formatWith old extra) count s d ≡ (converted.Refused r j, e) → RefusedFor code extra count s d r j × (e ≡ d)
     pair-refused = go (tells false (formatWith code extra) (formatWith old extra) count s d)
@@ -96,12 +100,12 @@ module _ (code extra count : ℕ) (s d : List ℕ) where
       down-told pair extra count s d
       ∙ told-run false (formatWith code extra) (formatWith old extra) count s d (long .0) (long .1)
       ∙ rw (lt-ltb (length s) (runLength code extra count) l)
-  then-refused (no-room {old} pair long there l) =
-      down-told pair extra count s d
-      ∙ told-run false (formatWith code extra) (formatWith old extra) count s d (long .0) (long .1)
-      ∙ rw (le-ltb (length s) (runLength code extra count) there, lt-ltb (length d) (runLength old extra count) l)
-  then-refused (of-record {old} {k} {why} pair long enough within before refused) =
+  then-refused (of-record {old} {k} {why} pair long there within before refused) =
       let number : 1 + k ≡ suc k = omega arith in
       down-told pair extra count s d
       ∙ told-run false (formatWith code extra) (formatWith old extra) count s d (long .0) (long .1)
-      ∙ rw (le-ltb (length s) (runLength code extra count) (enough .0), le-ltb (length d) (runLength old extra count) (enough .1), refused-at (formatWith code extra) (lengthOf code extra) 1 count s why k within before refused, number)
+      ∙ rw (le-ltb (length s) (runLength code extra count) there, refused-at (formatWith code extra) (lengthOf code extra) 1 count s why k within before refused, number)
+  then-refused (no-room {old} pair long there fit l) =
+      down-told pair extra count s d
+      ∙ told-run false (formatWith code extra) (formatWith old extra) count s d (long .0) (long .1)
+      ∙ rw (le-ltb (length s) (runLength code extra count) there, all-fit (formatWith code extra) (lengthOf code extra) 1 count s fit, lt-ltb (length d) (runLength old extra count) l)

@@ -45,14 +45,14 @@ module _ {new old : ℕ} (pair : Down new old) (extra count : ℕ) (s d : List �
     pub ranks-within : le.Bytes s → AllWithin90 old extra count e
     ranks-within bytes k l =
         let plan = planOf (formatWith new extra) (formatWith old extra) in
-        let g = goes false plan count s (length d) (down-written .fits) in
+        let g = goes false plan count s (down-written .fits) in
         same-within (same-values bytes k l .readings) (fits-each (formatWith new extra) (lengthOf new extra) 1 count s (g .records) k l)
 
     pub rest-stays : (n ≡ runLength old extra count) × (drop n e ≡ drop n d)
     rest-stays =
         let w = down-written in
         let plan = planOf (formatWith new extra) (formatWith old extra) in
-        let g = goes false plan count s (length d) (w .fits) in
+        let g = goes false plan count s (w .fits) in
         let size = images-length false plan down-sound count s (takes-all false plan down-sound count s (g .records)) (g .there) in
         let past : drop (runLength old extra count) e ≡ drop (runLength old extra count) d = ap (drop (runLength old extra count)) (w .stands) ∙ drop-at (imagesOf false plan count s) _ _ size in
         (w .many, subst (λ (m : ℕ). drop m e ≡ drop m d) (sym (w .many)) past)
@@ -76,7 +76,7 @@ module _ {new old : ℕ} (pair : Down new old) (extra count : ℕ) (s d : List �
 
   -- a refusal with a record's number is that record's
   pub unfit-record : {why : Refusal} {k : ℕ} → RefusedFor new extra count s d why (suc k) → FirstUnfit new old extra count k s why
-  unfit-record {why} (of-record {k = k} own long enough within before refused) =
+  unfit-record {why} (of-record {k = k} own long there within before refused) =
       let paired = down-paired pair extra in
       record {
         within = within;

@@ -22,14 +22,11 @@ use Rattle.strict.specs.declared.Fit.the-variants as fit
 use Rattle.strict.specs.Fit.{fitOf}
 use Rattle.strict.specs.Whole.{fits-two}
 use Rattle.pairs.specs.declared.Plan.{Plan}
-use Rattle.pairs.specs.declared.Planned.{Planned}
-use Rattle.pairs.specs.declared.Planned.the-variants as planned
-use Rattle.pairs.specs.Pairs.{oldPair, newPair, plannedBy}
 use Rattle.pairs.specs.Sound.{Sound, same-extra, not-up}
 use Rattle.judge.specs.declared.Judged.{Judged}
 use Rattle.judge.specs.declared.Judged.the-variants as judged
-use Rattle.judge.specs.Judge.{judgedBy, judgeRun, recordsOf, judgedOf, verdictOn, verdictBy, oldVerdict, newVerdict}
-use Rattle.convert.specs.Run.{turnedOf, imageOf, imagesOf, ran, convertedOf, convertedBy, doneOf, toOldOf, toNewOf}
+use Rattle.judge.specs.Judge.{judgedBy, judgeRun, recordsOf}
+use Rattle.convert.specs.Run.{turnedOf, imageOf, imagesOf}
 use Rattle.convert.specs.Asked.{Takes, TakesRun}
 
 -- a whole record of the source that the writer takes: its image has the target's length, and is what the writer leaves
@@ -86,22 +83,3 @@ images-length up p sound (suc k) s t h =
     let one = image-length up p sound (take m s) (length-take-le m s (omega arith)) (t .0) in
     let rest = images-length up p sound k (drop m s) (t .1) (simp length-drop (omega arith)) in
     simp length-append (omega (arith, suc-mul k (p .«target_length»), one, rest))
-
--- what is done by the verdict on a run is its conversion
-done-is : (up : Bool) (count : ℕ) (s d : List ℕ) (x : Planned) → doneOf up count s d (verdictBy up count s (length d) x) ≡ convertedBy up count s d x
-unfolding convertedOf
-done-is up count s d (planned.Refused r) = refl
-done-is up count s d (planned.Is p) = go (judgedOf up p count s (length d))
-  where
-    go : (x : Judged) → doneOf up count s d (verdictOn p x) ≡ ran x (imagesOf up p count s) (count * p .«target_length») d
-    go judged.Fits = refl
-    go (judged.Refused r number) = refl
-
-module _ (format extra count : ℕ) (s d : List ℕ) where
-  pub old-done : doneOf false count s d (oldVerdict format extra count s (length d)) ≡ toOldOf format extra count s d
-  unfolding oldVerdict toOldOf
-  old-done = done-is false count s d (plannedBy format (oldPair format extra))
-
-  pub new-done : doneOf true count s d (newVerdict format extra count s (length d)) ≡ toNewOf format extra count s d
-  unfolding newVerdict toNewOf
-  new-done = done-is true count s d (plannedBy format (newPair format extra))

@@ -9,5 +9,6 @@ pub mod Each
 pub mod Exact
 pub mod Found
 pub mod Back
+pub mod Agree
 -- theorems
 pub mod Theorems

@@ -3,17 +3,23 @@
 -- the bytes s, each with `extra` extra bytes; d is the destination before and e after; k is how many records stand before one.
 use Prim.Native.Nat.{ℕ, suc, _≤_, _<_}
 use mathlib.Core.Path.{_≡_}
+use mathlib.Core.Bool.{Bool}
 use mathlib.Core.List.{List}
-use mathlib.Core.Logic.{_↔_}
+use mathlib.Core.Logic.{_↔_, _⊎_}
 use lib.ListN.{length, drop}
 use Rattle.refusal.specs.declared.Refusal.{Refusal}
+use Rattle.refusal.specs.declared.Refusal.the-variants.{NoRoom}
+use Rattle.refusal.specs.Table.{numberOf}
 use Rattle.le.specs.Le as le
+use Rattle.pairs.specs.declared.Plan.{Plan}
+use Rattle.judge.specs.declared.Verdict.the-variants as verdict
 use Rattle.convert.specs.declared.Converted.the-variants.{Bytes, Refused}
 use Rattle.convert.specs.Run.{toOldOf, toNewOf}
-use Rattle.convert.specs.Demand.{Down, Up, lengthOf, runLength, SameValues, OldRecord, FirstUnfit, NotOverlong, Enough, No28, AllWithin90, laid, Convertible, RefusedFor}
+use Rattle.convert.specs.Demand.{askOf, convertOf, Down, Up, lengthOf, runLength, SameValues, OldRecord, FirstUnfit, NotOverlong, Enough, No28, AllWithin90, laid, Convertible, RefusedFor}
 use Rattle.convert.specs.Exact.{converted-then, then-converted, refused-then, then-refused}
 use Rattle.convert.specs.Found.{same-values, ranks-within, rest-stays, fits-shown, shown-fits, unfit-record}
 use Rattle.convert.specs.Back.{upgrade-answered, answered-back, back-only}
+use Rattle.convert.specs.Agree.{same-refusal, with-room, without-room, asked-bytes, asked-refusal, not-room}
 
 module _ {new old : ℕ} (pair : Down new old) (extra count : ℕ) (s d : List ℕ) where
   -- "A run of format 6 to 10 records made strictly into its paired old format shows an old reader, in every record, the same value in
@@ -65,7 +71,7 @@ module _ {new old : ℕ} (pair : Down new old) (extra count : ℕ) (s d : List �
 
 -- "It is refused only then, a short buffer, an overlong record or a wrong format aside." Of any format code: a run is converted exactly
 -- when it has a pair, no record is overlong, no buffer short, and every record fits; it is refused, with a refusal and a record number,
--- exactly when these are the first to hold in document 01's order. "A refusal writes nothing into lent memory."
+-- exactly when these are the first to hold in document 01's order, no room last (document 02, No. 10). "A refusal writes nothing into lent memory."
 module _ (code extra count : ℕ) (s d : List ℕ) where
   pub converted-exactly :
       ((n : ℕ) × (e : List ℕ) × (toOldOf code extra count s d ≡ (Bytes n, e))) ↔ Convertible code extra count s d
@@ -78,6 +84,38 @@ module _ (code extra count : ℕ) (s d : List ℕ) where
 
   pub refused-unwritten : {why : Refusal} {j : ℕ} {e : List ℕ} → toOldOf code extra count s d ≡ (Refused why j, e) → e ≡ d
   refused-unwritten refused = refused-then code extra count s d refused .1
+
+-- Document 02, No. 10: "a question, with no destination, that gives the first refusal other than 22 or the bytes needed, and a writing call
+-- that asks it itself. For the same source, 22 aside, they never disagree." Either way, strictly down (false) and up (true):
+module _ (up : Bool) (code extra count : ℕ) (s d : List ℕ) where
+  -- what the question refuses, the writing call refuses so, and leaves the destination;
+  pub refused-as-asked :
+      {why : Refusal} {j : ℕ} → askOf up code extra count s ≡ verdict.Refused why j
+      → convertOf up code extra count s d ≡ (Refused why j, d)
+  refused-as-asked = same-refusal up code extra count s d
+
+  -- where the question answers n bytes, the call writes n bytes, or answers 22 with n, exactly when the destination is shorter;
+  pub written-as-asked :
+      {p : Plan} {n : ℕ} → askOf up code extra count s ≡ verdict.Goes p n
+      → (n ≤ length d → (e : List ℕ) × (convertOf up code extra count s d ≡ (Bytes n, e)))
+      × (length d < n → convertOf up code extra count s d ≡ (Refused (NoRoom n) 0, d))
+  written-as-asked a = (λ room. (_, with-room up code extra count s d a room), without-room up code extra count s d a)
+
+  -- bytes that the call writes, the question answers, and a refusal of the call is the question's, or 22 with the bytes that it answers;
+  pub bytes-were-asked :
+      {n : ℕ} {e : List ℕ} → convertOf up code extra count s d ≡ (Bytes n, e)
+      → ((p : Plan) × (askOf up code extra count s ≡ verdict.Goes p n)) × (n ≤ length d)
+  bytes-were-asked = asked-bytes up code extra count s d
+
+  pub refusal-was-asked :
+      {why : Refusal} {j : ℕ} {e : List ℕ} → convertOf up code extra count s d ≡ (Refused why j, e)
+      → (askOf up code extra count s ≡ verdict.Refused why j)
+      ⊎ ((p : Plan) × (n : ℕ) × (askOf up code extra count s ≡ verdict.Goes p n) × (why ≡ NoRoom n) × (length d < n))
+  refusal-was-asked = asked-refusal up code extra count s d
+
+  -- "22 .. only from the writing call".
+  pub never-22 : {why : Refusal} {j : ℕ} → askOf up code extra count s ≡ verdict.Refused why j → numberOf why ≡ 22 → ⊥
+  never-22 = not-room up code extra count s
 
 -- "An old record with a pair, whose class isn't 28 and whose new record isn't overlong, brought up and strictly down again, has its own
 -- bytes." Document 02, No. 2: this "now needs the old rank within ±90". Where no buffer is short the upgrade is answered; what it leaves, made

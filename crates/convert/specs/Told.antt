@@ -14,13 +14,13 @@ use Rattle.format.specs.declared.FormatLen.{FormatLen}
 use Rattle.format.specs.Fields.{recordBytes, lenOf}
 use Rattle.format.specs.Length as format
 use Rattle.format.specs.Length.{len-told}
-use Rattle.format.specs.Laws.{record-sum}
 use Rattle.pairs.specs.Paired.{Paired, Mates, six-one, seven-three, eight-three, nine-four, ten-five}
 use Rattle.pairs.specs.declared.Plan.{Plan}
 use Rattle.convert.specs.declared.Converted.{Converted}
 use Rattle.convert.specs.declared.Converted.the-variants as converted
 use Rattle.pairs.specs.Pairs.{formatWith, oldPair, newPair, lengthsOf}
-use Rattle.convert.specs.Run.{convertedOf, convertedBy, toOldOf, toNewOf}
+use Rattle.judge.specs.Judge.{judgedOf, verdictOn, verdictBy, oldVerdict, newVerdict}
+use Rattle.convert.specs.Run.{doneOf, toOldOf, toNewOf}
 use Rattle.pairs.specs.Sound.{Sound}
 use Rattle.convert.specs.Demand.{Down, from-6, from-7, from-8, from-9, from-10, Up, from-1, from-3, from-4, from-5}
 
@@ -28,9 +28,13 @@ use Rattle.convert.specs.Demand.{Down, from-6, from-7, from-8, from-9, f
 abbrev pub planOf : Format → Format → Plan
 planOf a b = record { source = a; target = b; «source_length» = recordBytes a; «target_length» = recordBytes b }
 
+-- what becomes of a run by a plan
+unfoldable pub convertedOf : Bool → Plan → ℕ → List ℕ → List ℕ → Converted × List ℕ
+convertedOf up p count s d = doneOf up count s d (verdictOn p count (judgedOf up p count s))
+
 -- what a run is told by the lengths of two formats
 abbrev pub told : Bool → Format → Format → ℕ → List ℕ → List ℕ → Converted × List ℕ
-told up a b count s d = convertedBy up count s d (lengthsOf a b (lenOf a) (lenOf b))
+told up a b count s d = doneOf up count s d (verdictBy up count s (lengthsOf a b (lenOf a) (lenOf b)))
 
 -- a refusal is no count of bytes
 pub not-bytes : {A : Type 0} (r : Refusal) (j n : ℕ) (d e : List ℕ) → _≡_ {A = Converted × List ℕ} (converted.Refused r j, d) (converted.Bytes n, e) → A
@@ -48,14 +52,16 @@ module _ (up : Bool) (a b : Format) where
       runs : recordBytes a ≤ 65535 → recordBytes b ≤ 65535 → Tells (convertedOf up (planOf a b) count s d)
 
     pub tells : Tells (told up a b count s d)
+    unfolding convertedOf
     tells = go (format.told a) (format.told b)
       where
-        go : {x y : FormatLen} → format.Told a x → format.Told b y → Tells (convertedBy up count s d (lengthsOf a b x y))
+        go : {x y : FormatLen} → format.Told a x → format.Told b y → Tells (doneOf up count s d (verdictBy up count s (lengthsOf a b x y)))
         go (format.over h) y = source-over h
         go (format.fits h) (format.over l) = target-over h l
         go (format.fits h) (format.fits l) = runs h l
 
     pub told-run : recordBytes a ≤ 65535 → recordBytes b ≤ 65535 → told up a b count s d ≡ convertedOf up (planOf a b) count s d
+    unfolding convertedOf
     told-run h l = rw (len-told a h, len-told b l)
 
     pub told-bytes : {n : ℕ} {e : List ℕ} → told up a b count s d ≡ (converted.Bytes n, e) → (recordBytes a ≤ 65535) × (recordBytes b ≤ 65535) × (convertedOf up (planOf a b) count s d ≡ (converted.Bytes n, e))
@@ -69,10 +75,6 @@ module _ (up : Bool) (a b : Format) where
   pub plan-of-sound : recordBytes a ≤ 65535 → recordBytes b ≤ 65535 → Mates up a b → Sound up (planOf a b)
   plan-of-sound h l mates = record { from = len-told a h; into = len-told b l; mates = mates }
 
--- the old record of a pair is the shorter
-pub shorter : (new old : Format) → Paired new old → recordBytes old ≤ recordBytes new
-shorter new old pair = rw (record-sum new, record-sum old, pair .is-new, pair .is-old, pair .time, pair .color, pair .waveform, pair .no-nir, pair .extra) (omega arith)
-
 pub down-paired : {new old : ℕ} → Down new old → (extra : ℕ) → Paired (formatWith new extra) (formatWith old extra)
 down-paired from-6 = six-one
 down-paired from-7 = seven-three
@@ -82,7 +84,7 @@ down-paired from-10 = ten-five
 
 -- what a run of a pair is told, on the way down and up
 pub down-told : {new old : ℕ} → Down new old → (extra count : ℕ) (s d : List ℕ) → toOldOf new extra count s d ≡ told false (formatWith new extra) (formatWith old extra) count s d
-unfolding toOldOf oldPair
+unfolding toOldOf oldVerdict oldPair
 down-told from-6 extra count s d = refl
 down-told from-7 extra count s d = refl
 down-told from-8 extra count s d = refl
@@ -90,7 +92,7 @@ down-told from-9 extra count s d = refl
 down-told from-10 extra count s d = refl
 
 pub up-told : {old new : ℕ} → Up old new → (extra count : ℕ) (s d : List ℕ) → toNewOf old extra count s d ≡ told true (formatWith old extra) (formatWith new extra) count s d
-unfolding toNewOf newPair
+unfolding toNewOf newVerdict newPair
 up-told from-1 extra count s d = refl
 up-told from-3 extra count s d = refl
 up-told from-4 extra count s d = refl
@@ -128,7 +130,7 @@ module _ (code : ℕ) where
           inr (λ old pair. none pair (eqb-false code 6 six) (eqb-false code 7 seven) (eqb-false code 8 eight) (eqb-false code 9 nine) (eqb-false code 10 ten))
 
   pub none-told : ((old : ℕ) → Down code old → ⊥) → (extra count : ℕ) (s d : List ℕ) → toOldOf code extra count s d ≡ (converted.Refused (NoPair code) 0, d)
-  unfolding toOldOf oldPair
+  unfolding toOldOf oldVerdict oldPair
   none-told none extra count s d =
       rw (ne-eqb code 6 (other 6 1 from-6), ne-eqb code 7 (other 7 3 from-7), ne-eqb code 8 (other 8 3 from-8), ne-eqb code 9 (other 9 4 from-9), ne-eqb code 10 (other 10 5 from-10))
     where

@@ -1,5 +1,5 @@
-// Runs of point records, converted strictly down to an old format and upgraded to a new one, as document 01 adds. A run is
-// judged whole before its first byte is written; judging and writing are apart.
+// Runs of point records, converted strictly down to an old format and upgraded to a new one, as document 01 adds. A call asks first
+// whether the whole run goes, which `judge` answers without a destination, and only then writes its first byte.
 ghost use mathlib.Core.Path.{_≡_};
 ghost use mathlib.Core.List.{_++_};
 ghost use Prim.Native.Nat.{_*_, _≤_};
@@ -24,13 +24,13 @@ pub enum Converted {
 }
 
 // Converts `count` records of a new format, each with `extra` extra bytes, to the old format of its pair, at the front of the
-// destination, and leaves what lies past them. Refused, with nothing written: 26 where the format has no pair; 8 where a
-// record of the source, then of the target, is over 65,535 bytes; 1 where the source is short; 22 where the destination is;
-// then 15 to 21 with the number of the first record that does not fit.
+// destination, and leaves what lies past them. Refused, with nothing written, as `judge::ask_old` refuses: 26 where the format has no
+// pair; 8 where a record of the source, then of the target, is over 65,535 bytes; 1 where the source is short; 15 to 21 with the
+// number of the first record that does not fit; and then 22, with the bytes needed, where the destination is short.
 pub fn to_old(src: &[u8], format: u8, extra: u16, count: u64, dst: &mut [u8]) -> Converted
     ensures { λ r. ⌜ (r, now (dst .exit)) ≡ toOldOf format extra count (now (src .entry)) (now (dst .entry)) ⌝ }
 {
-    let verdict = judge::to_old(src, format, extra, count, dst.len());
+    let verdict = judge::ask_old(src, format, extra, count);
     convert(src, verdict, count as usize, false, dst)
 }
 
@@ -38,19 +38,25 @@ pub fn to_old(src: &[u8], format: u8, extra: u16, count: u64, dst: &mut [u8]) ->
 pub fn to_new(src: &[u8], format: u8, extra: u16, count: u64, dst: &mut [u8]) -> Converted
     ensures { λ r. ⌜ (r, now (dst .exit)) ≡ toNewOf format extra count (now (src .entry)) (now (dst .entry)) ⌝ }
 {
-    let verdict = judge::to_new(src, format, extra, count, dst.len());
+    let verdict = judge::ask_new(src, format, extra, count);
     convert(src, verdict, count as usize, true, dst)
 }
 
-// The run as it was judged, written where it goes; `up` says whether it is upgraded.
+// The run as it was judged, written where it goes and has room; `up` says whether it is upgraded.
 fn convert(src: &[u8], verdict: Verdict, count: usize, up: bool, dst: &mut [u8]) -> Converted
-    requires { ⌜ Ready up count (now src) (length (now dst)) verdict ⌝ }
+    requires { ⌜ Ready up count (now src) verdict ⌝ }
     ensures { λ r. ⌜ (r, now (dst .exit)) ≡ doneOf up count (now (src .entry)) (now (dst .entry)) verdict ⌝ }
 {
     match verdict {
-        Verdict::Goes(plan) => {
+        Verdict::Goes { plan, bytes } => {
+            if dst.len() < bytes {
+                return Converted::Refused {
+                    refusal: Refusal::NoRoom(bytes as u64),
+                    record: 0,
+                };
+            }
             write(src, plan, count, up, dst);
-            Converted::Bytes(count * plan.target_length)
+            Converted::Bytes(bytes)
         }
         Verdict::Refused { refusal, record } => Converted::Refused { refusal, record },
     }

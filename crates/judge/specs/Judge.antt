@@ -1,10 +1,11 @@
--- Document 01, "Strict conversion": what a run of records is refused with. Each record is what its reader says of its bytes.
+-- Document 01, "Strict conversion", as document 02, No. 10 amends it: "a question, with no destination, that gives the first refusal other
+-- than 22 or the bytes needed". Each record is what its reader says of its bytes.
 use Prim.Native.Nat.{ℕ, zero, suc, _+_, _*_}
 use mathlib.Core.Bool.{Bool, true, false, cond}
 use mathlib.Core.List.{List}
 use lib.Dec.{ltb}
 use lib.ListN.{length, take, drop}
-use Rattle.refusal.specs.declared.Refusal.the-variants.{Short, NoRoom}
+use Rattle.refusal.specs.declared.Refusal.the-variants.{Short}
 use Rattle.refusal.specs.Table.{wantedOf}
 use Rattle.format.specs.declared.Format.{Format}
 use Rattle.point.specs.declared.PointRead.{PointRead}
@@ -42,26 +43,25 @@ abbrev pub recordsOf : Bool → Plan → ℕ → List ℕ → Judged
 recordsOf true p count s = Fits
 recordsOf false p count s = judgeRun (p .source) (p .«source_length») 1 count s
 
--- "source short 1; destination short 22. Then records", where the destination has `room` bytes; products are exact
-unfoldable pub judgedOf : Bool → Plan → ℕ → List ℕ → ℕ → Judged
-judgedOf up p count s room =
+-- "source short 1 .. Then records"; the product is exact
+unfoldable pub judgedOf : Bool → Plan → ℕ → List ℕ → Judged
+judgedOf up p count s =
     cond (ltb (length s) (count * p .«source_length»)) (Refused (Short (wantedOf (count * p .«source_length»))) 0)
-    (cond (ltb room (count * p .«target_length»)) (Refused (NoRoom (wantedOf (count * p .«target_length»))) 0)
-    (recordsOf up p count s))
+    (recordsOf up p count s)
 
--- a run that fits goes by its plan
-abbrev pub verdictOn : Plan → Judged → Verdict
-verdictOn p Fits = verdict.Goes p
-verdictOn p (Refused r number) = verdict.Refused r number
+-- a run that fits goes by its plan, and needs the bytes of its records in the target format
+abbrev pub verdictOn : Plan → ℕ → Judged → Verdict
+verdictOn p count Fits = verdict.Goes p (count * p .«target_length»)
+verdictOn p count (Refused r number) = verdict.Refused r number
 
 -- 26 and 8 come first, with no record's number
-abbrev pub verdictBy : Bool → ℕ → List ℕ → ℕ → Planned → Verdict
-verdictBy up count s room (planned.Is p) = verdictOn p (judgedOf up p count s room)
-verdictBy up count s room (planned.Refused r) = verdict.Refused r 0
+abbrev pub verdictBy : Bool → ℕ → List ℕ → Planned → Verdict
+verdictBy up count s (planned.Is p) = verdictOn p count (judgedOf up p count s)
+verdictBy up count s (planned.Refused r) = verdict.Refused r 0
 
 -- of the strict conversion, and of the upgrade
-unfoldable pub oldVerdict : ℕ → ℕ → ℕ → List ℕ → ℕ → Verdict
-oldVerdict format extra count s room = verdictBy false count s room (plannedBy format (oldPair format extra))
+unfoldable pub oldVerdict : ℕ → ℕ → ℕ → List ℕ → Verdict
+oldVerdict format extra count s = verdictBy false count s (plannedBy format (oldPair format extra))
 
-unfoldable pub newVerdict : ℕ → ℕ → ℕ → List ℕ → ℕ → Verdict
-newVerdict format extra count s room = verdictBy true count s room (plannedBy format (newPair format extra))
+unfoldable pub newVerdict : ℕ → ℕ → ℕ → List ℕ → Verdict
+newVerdict format extra count s = verdictBy true count s (plannedBy format (newPair format extra))

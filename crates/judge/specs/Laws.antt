@@ -37,39 +37,37 @@ unfolding fitOf
 marks-enough (read.Is p) = refl
 marks-enough (read.Refused r) = refl
 
-module _ (up : Bool) (p : Plan) (count : ℕ) (s : List ℕ) (room : ℕ) where
+module _ (up : Bool) (p : Plan) (count : ℕ) (s : List ℕ) where
   pub record Goes : Type 0 where
     pub there : count * p .«source_length» ≤ length s
-    pub fits : count * p .«target_length» ≤ room
     pub records : recordsOf up p count s ≡ judged.Fits
 
-  pub goes : judgedOf up p count s room ≡ judged.Fits → Goes
+  pub goes : judgedOf up p count s ≡ judged.Fits → Goes
   unfolding judgedOf
-  goes = go (ltb (length s) (count * p .«source_length»)) (ltb room (count * p .«target_length»)) refl refl _ _
+  goes = go (ltb (length s) (count * p .«source_length»)) refl _
     where
-      go : (x y : Bool) → ltb (length s) (count * p .«source_length») ≡ x → ltb room (count * p .«target_length») ≡ y → (a b : Refusal) → cond x (judged.Refused a 0) (cond y (judged.Refused b 0) (recordsOf up p count s)) ≡ judged.Fits → Goes
-      go false false f g a b e = record { there = ltb-false _ _ f; fits = ltb-false _ _ g; records = e }
-      go false true f g a b e = let z : _≡_ {A = ℕ} 0 1 = cc in absurd (omega arith)
-      go true y f g a b e = let z : _≡_ {A = ℕ} 0 1 = cc in absurd (omega arith)
+      go : (x : Bool) → ltb (length s) (count * p .«source_length») ≡ x → (a : Refusal) → cond x (judged.Refused a 0) (recordsOf up p count s) ≡ judged.Fits → Goes
+      go false f a e = record { there = ltb-false _ _ f; records = e }
+      go true f a e = let z : _≡_ {A = ℕ} 0 1 = cc in absurd (omega arith)
 
--- what a verdict leaves to the writing: a plan that it names is sound, and the run goes by it
-abbrev pub Ready : Bool → ℕ → List ℕ → ℕ → Verdict → Type 0
-Ready up count s room (verdict.Goes p) = Sound up p × Goes up p count s room
-Ready up count s room (verdict.Refused r number) = Unit
+-- what a verdict leaves to the writing: a plan that it names is sound, the run goes by it, and it needs so many bytes
+abbrev pub Ready : Bool → ℕ → List ℕ → Verdict → Type 0
+Ready up count s (verdict.Goes p n) = Sound up p × Goes up p count s × (n ≡ count * p .«target_length»)
+Ready up count s (verdict.Refused r number) = Unit
 
-ready : (up : Bool) (count : ℕ) (s : List ℕ) (room : ℕ) (x : Planned) → PlannedSound up x → Ready up count s room (verdictBy up count s room x)
-ready up count s room (planned.Refused r) sound = tt
-ready up count s room (planned.Is p) sound = go (judgedOf up p count s room) refl
+ready : (up : Bool) (count : ℕ) (s : List ℕ) (x : Planned) → PlannedSound up x → Ready up count s (verdictBy up count s x)
+ready up count s (planned.Refused r) sound = tt
+ready up count s (planned.Is p) sound = go (judgedOf up p count s) refl
   where
-    go : (x : Judged) → judgedOf up p count s room ≡ x → Ready up count s room (verdictOn p x)
-    go judged.Fits e = (sound, goes up p count s room e)
+    go : (x : Judged) → judgedOf up p count s ≡ x → Ready up count s (verdictOn p count x)
+    go judged.Fits e = (sound, goes up p count s e, refl)
     go (judged.Refused r number) e = tt
 
-module _ (format extra count : ℕ) (s : List ℕ) (room : ℕ) where
-  pub old-ready : Ready false count s room (oldVerdict format extra count s room)
+module _ (format extra count : ℕ) (s : List ℕ) where
+  pub old-ready : Ready false count s (oldVerdict format extra count s)
   unfolding oldVerdict
-  old-ready = ready false count s room (plannedBy format (oldPair format extra)) (old-planned format extra)
+  old-ready = ready false count s (plannedBy format (oldPair format extra)) (old-planned format extra)
 
-  pub new-ready : Ready true count s room (newVerdict format extra count s room)
+  pub new-ready : Ready true count s (newVerdict format extra count s)
   unfolding newVerdict
-  new-ready = ready true count s room (plannedBy format (newPair format extra)) (new-planned format extra)
+  new-ready = ready true count s (plannedBy format (newPair format extra)) (new-planned format extra)

@@ -1,5 +1,6 @@
-// Whether a whole run of point records goes, as document 01 orders it: by its pair of formats, by the lengths of source and
-// destination, and on its way down by each of its records.
+// Whether a whole run of point records goes to the other format of its pair, and how many bytes it needs there: document 02's question
+// before converting, which has no destination. By the pair of formats, by the length of the source, and on the way down by each record, in
+// document 01's order.
 ghost use mathlib.Core.Path.{_≡_};
 ghost use Prim.Native.Nat.{_*_, _≤_};
 ghost use lib.ListN.{length};
@@ -22,69 +23,53 @@ pub enum Judged {
     Refused { refusal: Refusal, record: u64 },
 }
 
-// The plan that a run goes by, or why it does not go, with the record's number.
+// The plan that a run goes by and the bytes that it needs, or why it does not go, with the record's number.
 pub enum Verdict {
-    Goes(Plan),
+    Goes { plan: Plan, bytes: usize },
     Refused { refusal: Refusal, record: u64 },
 }
 
-// Whether `count` records of a new format, each with `extra` extra bytes, go down to the old format of its pair, in a destination
-// of `room` bytes. Refused: 26 where the format has no pair; 8 where a record of the source, then of the target, is over 65,535
-// bytes; 1 where the source is short; 22 where the destination is; then 15 to 21 with the number of the first record that does
-// not fit.
-pub fn to_old(src: &[u8], format: u8, extra: u16, count: u64, room: usize) -> Verdict
-    ensures { λ r. ⌜ r ≡ oldVerdict format extra count (now (src .entry)) room ⌝ }
+// Whether `count` records of a new format, each with `extra` extra bytes, go down to the old format of its pair. Refused: 26 where the
+// format has no pair; 8 where a record of the source, then of the target, is over 65,535 bytes; 1 where the source is short; then 15
+// to 21 with the number of the first record that does not fit.
+pub fn ask_old(src: &[u8], format: u8, extra: u16, count: u64) -> Verdict
+    ensures { λ r. ⌜ r ≡ oldVerdict format extra count (now (src .entry)) ⌝ }
 {
-    verdict_on(
-        src,
-        pairs::to_old(format, extra),
-        count as usize,
-        false,
-        room,
-    )
+    verdict_on(src, pairs::to_old(format, extra), count as usize, false)
 }
 
 // The same for an upgrade to the new format of the pair; no record is refused.
-pub fn to_new(src: &[u8], format: u8, extra: u16, count: u64, room: usize) -> Verdict
-    ensures { λ r. ⌜ r ≡ newVerdict format extra count (now (src .entry)) room ⌝ }
+pub fn ask_new(src: &[u8], format: u8, extra: u16, count: u64) -> Verdict
+    ensures { λ r. ⌜ r ≡ newVerdict format extra count (now (src .entry)) ⌝ }
 {
-    verdict_on(
-        src,
-        pairs::to_new(format, extra),
-        count as usize,
-        true,
-        room,
-    )
+    verdict_on(src, pairs::to_new(format, extra), count as usize, true)
 }
 
 // The verdict on a run with this plan; `up` says whether it is upgraded.
-fn verdict_on(src: &[u8], planned: Planned, count: usize, up: bool, room: usize) -> Verdict
+fn verdict_on(src: &[u8], planned: Planned, count: usize, up: bool) -> Verdict
     requires { ⌜ PlannedSound up planned ⌝ }
-    ensures { λ r. ⌜ r ≡ verdictBy up count (now (src .entry)) room planned ⌝ }
+    ensures { λ r. ⌜ r ≡ verdictBy up count (now (src .entry)) planned ⌝ }
 {
     match planned {
-        Planned::Is(plan) => match judge(src, plan, count, up, room) {
-            Judged::Fits => Verdict::Goes(plan),
+        Planned::Is(plan) => match judge(src, plan, count, up) {
+            Judged::Fits => Verdict::Goes {
+                plan,
+                bytes: count * plan.target_length,
+            },
             Judged::Refused { refusal, record } => Verdict::Refused { refusal, record },
         },
         Planned::Refused(refusal) => Verdict::Refused { refusal, record: 0 },
     }
 }
 
-// What the run is refused with, where the destination has `room` bytes.
-fn judge(src: &[u8], plan: Plan, count: usize, up: bool, room: usize) -> Judged
+// What the run is refused with.
+fn judge(src: &[u8], plan: Plan, count: usize, up: bool) -> Judged
     requires { ⌜ Sound up plan ⌝ }
-    ensures { λ r. ⌜ r ≡ judgedOf up plan count (now (src .entry)) room ⌝ }
+    ensures { λ r. ⌜ r ≡ judgedOf up plan count (now (src .entry)) ⌝ }
 {
     if src.len() / plan.source_length < count {
         return Judged::Refused {
             refusal: Refusal::Short(refusal::wanted(count as u64, plan.source_length as u64)),
-            record: 0,
-        };
-    }
-    if room / plan.target_length < count {
-        return Judged::Refused {
-            refusal: Refusal::NoRoom(refusal::wanted(count as u64, plan.target_length as u64)),
             record: 0,
         };
     }

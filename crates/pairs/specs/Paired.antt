@@ -1,8 +1,11 @@
 -- What the two formats of a pair have in common.
-use Prim.Native.Nat.{ℕ}
+use Prim.Native.Nat.{ℕ, _+_, _≤_}
 use mathlib.Core.Path.{_≡_, refl}
-use mathlib.Core.Bool.{Bool, true, false}
+use mathlib.Core.Bool.{Bool, true, false, cond}
+use native.Mathlib.Omega.{arith}
 use Rattle.format.specs.declared.Format.{Format}
+use Rattle.format.specs.Fields.{recordBytes}
+use Rattle.format.specs.Laws.{record-sum}
 use Rattle.format.specs.Format.{withExtra}
 use Rattle.format.specs.Codes.{coded}
 use Rattle.format.specs.Attributes.{attributes, code-attributes}
@@ -17,6 +20,14 @@ pub record Paired (new old : Format) : Type 0 where
   pub waveform : new .«has_waveform» ≡ old .«has_waveform»
   pub no-nir : old .«has_nir» ≡ false
   pub extra : new .«extra_bytes» ≡ old .«extra_bytes»
+
+two-at-most : (b : Bool) → cond b 2 0 ≤ 2
+two-at-most true = omega arith
+two-at-most false = omega arith
+
+-- the old record is the shorter, by four bytes at most
+pub shorter : (new old : Format) → Paired new old → (recordBytes old ≤ recordBytes new) × (recordBytes new ≤ recordBytes old + 4)
+shorter new old pair = rw (record-sum new, record-sum old, pair .is-new, pair .is-old, pair .time, pair .color, pair .waveform, pair .no-nir, pair .extra) (omega arith, omega (arith, two-at-most (new .«has_nir»)))
 
 -- such a pair, with as many extra bytes on both sides
 attributes-paired : (time color nir waveform : Bool) (extra : ℕ) → Paired (withExtra extra (attributes true time color nir waveform)) (withExtra extra (attributes false time color false waveform))

@@ -1,20 +1,22 @@
 -- What a plan that is made is: sound.
-use Prim.Native.Nat.{ℕ}
+use Prim.Native.Nat.{ℕ, _*_, _≤_, _<_, _^_}
 use mathlib.Core.Path.{_≡_, refl, ap, sym}
 use mathlib.Core.Bool.{Bool, true, false, cond}
+use native.Mathlib.Nat.{mul-le-mul-left, mul-left-comm}
 use native.Mathlib.Omega.{arith}
 use lib.Dec.{eqb}
 use Rattle.format.specs.declared.Format.{Format}
 use Rattle.format.specs.declared.FormatLen.{FormatLen}
 use Rattle.format.specs.declared.FormatLen.the-variants as len
 use Rattle.format.specs.Fields.{lenOf}
+use Rattle.format.specs.Laws.{record-sum, len-is}
 use Rattle.pairs.specs.declared.Pair.{Pair}
 use Rattle.pairs.specs.declared.Pair.the-variants.{Formats, None}
 use Rattle.pairs.specs.declared.Plan.{Plan}
 use Rattle.pairs.specs.declared.Planned.{Planned}
 use Rattle.pairs.specs.declared.Planned.the-variants as planned
 use Rattle.pairs.specs.Pairs.{oldPair, newPair, lengthsOf, plannedBy}
-use Rattle.pairs.specs.Paired.{Mates, six-one, seven-three, eight-three, nine-four, ten-five}
+use Rattle.pairs.specs.Paired.{Mates, shorter, six-one, seven-three, eight-three, nine-four, ten-five}
 
 -- the lengths are the formats', and the formats are a pair
 pub record Sound (up : Bool) (p : Plan) : Type 0 where
@@ -26,6 +28,19 @@ pub record Sound (up : Bool) (p : Plan) : Type 0 where
 pub same-extra : (up : Bool) (a b : Format) → Mates up a b → a .«extra_bytes» ≡ b .«extra_bytes»
 same-extra true a b m = sym (m .extra)
 same-extra false a b m = m .extra
+
+-- and a record of the target has at most twice the bytes of the source's, so that a run in memory can be told its bytes
+at-most-twice : (up : Bool) (p : Plan) → Sound up p → p .«target_length» ≤ 2 * p .«source_length»
+at-most-twice up p sound = go up (sound .mates)
+  where
+    go : (b : Bool) → Mates b (p .source) (p .target) → p .«target_length» ≤ 2 * p .«source_length»
+    go true m = omega (arith, shorter (p .target) (p .source) m .1, record-sum (p .source), len-is _ _ (sound .from), len-is _ _ (sound .into))
+    go false m = omega (arith, shorter (p .source) (p .target) m .0, len-is _ _ (sound .from), len-is _ _ (sound .into))
+
+pub bytes-told : (up : Bool) (p : Plan) → Sound up p → (count n : ℕ) → count * p .«source_length» ≤ n → n < 2 ^ 63 → count * p .«target_length» < 2 ^ 64
+bytes-told up p sound count n there memory =
+    let more : count * p .«target_length» ≤ count * (2 * p .«source_length») = mul-le-mul-left count (at-most-twice up p sound) in
+    omega (arith, mul-left-comm count 2 (p .«source_length»))
 
 -- the formats that are found are such a pair
 abbrev PairSound : Bool → Pair → Type 0

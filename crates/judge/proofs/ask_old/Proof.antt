@@ -3,8 +3,8 @@ use mathlib.Core.Bool.{false}
 use borrow.Author.Needs.{needs}
 use Rattle.pairs.specs.Sound.{PlannedSound, old-planned}
 use Rattle.judge.specs.Judge.{verdictBy, oldVerdict}
-use Rattle.judge.proofs.to_old.Statement.{statement}
-use Rattle.judge.proofs.to_old.Tie as tie
+use Rattle.judge.proofs.ask_old.Statement.{statement}
+use Rattle.judge.proofs.ask_old.Tie as tie
 
 -- what is planned is sound
 verdict-on-requires : tie.Need-verdict-on-requires
@@ -17,7 +17,7 @@ unfolding oldVerdict
 returns c =
     let x = c .before in
     let a = x .before .before .args in
-    c .verdict-on .ensures ∙ ap (verdictBy false (a .count) (a .src .now) (a .room)) (x .to-old .ensures)
+    c .verdict-on .ensures ∙ ap (verdictBy false (a .count) (a .src .now)) (x .to-old .ensures)
 
-pub to-old-spec : {M : Type 1} → statement M
-to-old-spec = tie.close (tie.spec (λ c κs. search needs) verdict-on-requires returns)
+pub ask-old-spec : {M : Type 1} → statement M
+ask-old-spec = tie.close (tie.spec (λ c κs. search needs) verdict-on-requires returns)

@@ -3,8 +3,8 @@ use mathlib.Core.Bool.{true}
 use borrow.Author.Needs.{needs}
 use Rattle.pairs.specs.Sound.{PlannedSound, new-planned}
 use Rattle.judge.specs.Judge.{verdictBy, newVerdict}
-use Rattle.judge.proofs.to_new.Statement.{statement}
-use Rattle.judge.proofs.to_new.Tie as tie
+use Rattle.judge.proofs.ask_new.Statement.{statement}
+use Rattle.judge.proofs.ask_new.Tie as tie
 
 -- what is planned is sound
 verdict-on-requires : tie.Need-verdict-on-requires
@@ -17,7 +17,7 @@ unfolding newVerdict
 returns c =
     let x = c .before in
     let a = x .before .before .args in
-    c .verdict-on .ensures ∙ ap (verdictBy true (a .count) (a .src .now) (a .room)) (x .to-new .ensures)
+    c .verdict-on .ensures ∙ ap (verdictBy true (a .count) (a .src .now)) (x .to-new .ensures)
 
-pub to-new-spec : {M : Type 1} → statement M
-to-new-spec = tie.close (tie.spec (λ c κs. search needs) verdict-on-requires returns)
+pub ask-new-spec : {M : Type 1} → statement M
+ask-new-spec = tie.close (tie.spec (λ c κs. search needs) verdict-on-requires returns)
