@@ -1,4 +1,4 @@
-/* Strict conversion, and upgrade. */
+/* Strict conversion, and upgrade: the questions and the calls that write. */
 #include <string.h>
 
 #include "check.h"
@@ -23,6 +23,34 @@ static void make_run(uint8_t run[3 * RECORD]) {
     }
 }
 
+/* A question, and the call that writes. */
+struct way {
+    void (*ask)(const uint8_t *src, size_t src_len, uint8_t format, uint16_t extra, uint64_t count, uint64_t row[3]);
+    void (*write)(const uint8_t *src, size_t src_len, uint8_t format, uint16_t extra, uint64_t count, uint8_t *dst,
+                  size_t dst_len, uint64_t row[3]);
+};
+static const struct way down = {las_convert_ask_old, las_convert_to_old}, up = {las_convert_ask_new, las_convert_to_new};
+
+/* Whether a question of a run is answered so, and the call that writes answers the same whatever room there is, but with
+ * LAS_REFUSED_NO_ROOM and the bytes needed exactly where there is less than these; what it has no business with is left. */
+static bool answers(struct way way, const uint8_t *src, size_t src_len, uint8_t format, uint16_t extra, uint64_t count,
+                    uint64_t number, uint64_t value, uint64_t record) {
+    uint64_t row[3];
+    uint8_t dst[120];
+    fill_numbers(row, 3);
+    way.ask(src, src_len, format, extra, count, row);
+    bool same = told(row, number, value, record);
+    for (size_t room = 0; room <= sizeof dst; room++) {
+        bool none = number == LAS_OK && room < value;
+        size_t written = number == LAS_OK && !none ? (size_t)value : 0;
+        fill_bytes(dst, sizeof dst);
+        way.write(src, src_len, format, extra, count, dst, room, row);
+        same = same && (none ? told(row, LAS_REFUSED_NO_ROOM, value, 0) : told(row, number, value, record)) &&
+               left_bytes(dst + written, sizeof dst - written);
+    }
+    return same;
+}
+
 /* Down, and up again. */
 static void test_both_ways(void) {
     uint64_t row[3], point[LAS_POINT_NUMBERS];
@@ -33,6 +61,7 @@ static void test_both_ways(void) {
     fill_bytes(new, sizeof new);
     make_run(run);
 
+    CHECK(answers(down, run, sizeof run, 7, 2, 3, LAS_OK, 3 * 36, 0));
     las_convert_to_old(run, sizeof run, 7, 2, 3, old, sizeof old, row);
     CHECK(told(row, LAS_OK, 3 * 36, 0) && left_bytes(old + 3 * 36, sizeof old - 3 * 36));
     for (size_t i = 0; i < 3; i++) {
@@ -43,6 +72,7 @@ static void test_both_ways(void) {
         CHECK(old[36 * i + 34] == i && old[36 * i + 35] == 0xEE);
     }
 
+    CHECK(answers(up, old, 3 * 36, 3, 2, 3, LAS_OK, 3 * RECORD, 0));
     las_convert_to_new(old, 3 * 36, 3, 2, 3, new, sizeof new, row);
     CHECK(told(row, LAS_OK, 3 * RECORD, 0) && left_bytes(new + 3 * RECORD, sizeof new - 3 * RECORD));
     uint8_t again[3 * 36];
@@ -58,30 +88,29 @@ static void test_both_ways(void) {
 
 /* The refusals of a run before its records, in their order. */
 static void test_refused_runs(void) {
-    uint64_t row[3];
-    uint8_t run[3 * RECORD], dst[120];
-    fill_numbers(row, 3);
-    fill_bytes(dst, sizeof dst);
+    uint8_t run[3 * RECORD];
     make_run(run);
-    static const uint8_t up[11] = {0, 6, 0, 7, 9, 10, 0, 0, 0, 0, 0}, down[11] = {0, 0, 0, 0, 0, 0, 1, 3, 3, 4, 5};
+    static const uint8_t newer[11] = {0, 6, 0, 7, 9, 10, 0, 0, 0, 0, 0}, older[11] = {0, 0, 0, 0, 0, 0, 1, 3, 3, 4, 5};
+    static const uint64_t lengths[11] = {20, 28, 26, 34, 57, 63, 30, 36, 38, 59, 67};
     for (unsigned format = 0; format < 256; format++) {
-        las_convert_to_old(run, sizeof run, (uint8_t)format, 65535, 3, dst, 0, row);
-        CHECK(row[LAS_ROW_NUMBER] == (format < 11 && down[format] ? LAS_REFUSED_RECORD_LENGTH : LAS_REFUSED_NO_PAIR));
-        las_convert_to_new(run, sizeof run, (uint8_t)format, 65535, 3, dst, 0, row);
-        CHECK(row[LAS_ROW_NUMBER] == (format < 11 && up[format] ? LAS_REFUSED_RECORD_LENGTH : LAS_REFUSED_NO_PAIR));
+        uint8_t code = (uint8_t)format;
+        uint64_t overlong = format < 11 ? lengths[format] + 65535 : 0;
+        bool is_new = format < 11 && older[format], is_old = format < 11 && newer[format];
+        CHECK(is_new ? answers(down, run, sizeof run, code, 65535, 3, LAS_REFUSED_RECORD_LENGTH, overlong, 0)
+                     : answers(down, run, sizeof run, code, 65535, 3, LAS_REFUSED_NO_PAIR, format, 0));
+        CHECK(is_old ? answers(up, run, sizeof run, code, 65535, 3, LAS_REFUSED_RECORD_LENGTH, overlong, 0)
+                     : answers(up, run, sizeof run, code, 65535, 3, LAS_REFUSED_NO_PAIR, format, 0));
+        CHECK(is_new ? answers(down, nothing, 0, code, 2, 0, LAS_OK, 0, 0)
+                     : answers(down, nothing, 0, code, 2, 0, LAS_REFUSED_NO_PAIR, format, 0));
+        CHECK(is_old ? answers(up, nothing, 0, code, 2, 0, LAS_OK, 0, 0)
+                     : answers(up, nothing, 0, code, 2, 0, LAS_REFUSED_NO_PAIR, format, 0));
     }
-    las_convert_to_old(run, sizeof run, 3, 2, 3, dst, 0, row);
-    CHECK(told(row, LAS_REFUSED_NO_PAIR, 3, 0));
-    las_convert_to_new(run, sizeof run, 3, 65500, 3, dst, 0, row);
-    CHECK(told(row, LAS_REFUSED_RECORD_LENGTH, 65536, 0));
-    las_convert_to_old(run, sizeof run - 1, 7, 2, 3, dst, 0, row);
-    CHECK(told(row, LAS_REFUSED_SHORT, 3 * RECORD, 0));
-    las_convert_to_old(run, sizeof run, 7, 2, UINT64_MAX, dst, 0, row);
-    CHECK(told(row, LAS_REFUSED_SHORT, 0, 0));
-    las_convert_to_old(run, sizeof run, 7, 2, 3, dst, 3 * 36 - 1, row);
-    CHECK(told(row, LAS_REFUSED_NO_ROOM, 3 * 36, 0) && left_bytes(dst, sizeof dst));
-    las_convert_to_old(nothing, 0, 7, 2, 0, dst, 0, row);
-    CHECK(told(row, LAS_OK, 0, 0));
+    CHECK(answers(up, run, sizeof run, 3, 65500, 3, LAS_REFUSED_RECORD_LENGTH, 65536, 0));
+    CHECK(answers(down, run, sizeof run - 1, 7, 2, 3, LAS_REFUSED_SHORT, 3 * RECORD, 0));
+    CHECK(answers(up, run, 3 * 36, 3, 2, 3, LAS_OK, 3 * RECORD, 0));
+    CHECK(answers(up, run, 3 * 36 - 1, 3, 2, 3, LAS_REFUSED_SHORT, 3 * 36, 0));
+    CHECK(answers(down, run, sizeof run, 7, 2, UINT64_MAX, LAS_REFUSED_SHORT, 0, 0));
+    CHECK(answers(up, run, sizeof run, 3, 2, UINT64_MAX, LAS_REFUSED_SHORT, 0, 0));
 }
 
 /* The refusals of a record, its second: "Numbers on each side", strictly. */
@@ -102,14 +131,13 @@ static void test_refused_records(void) {
     uint64_t row[3];
     uint8_t run[3 * RECORD], dst[120];
     fill_numbers(row, 3);
-    fill_bytes(dst, sizeof dst);
     for (size_t i = 0; i < sizeof records / sizeof records[0]; i++) {
         make_run(run);
         memcpy(run + RECORD + 14, records[i].flags, 3);
         run[RECORD + 18] = (uint8_t)((uint16_t)records[i].scaled & 255);
         run[RECORD + 19] = (uint8_t)((uint16_t)records[i].scaled >> 8);
-        las_convert_to_old(run, sizeof run, 7, 2, 3, dst, sizeof dst, row);
-        CHECK(told(row, records[i].number, records[i].value, 2) && left_bytes(dst, sizeof dst));
+        CHECK(answers(down, run, sizeof run, 7, 2, 3, records[i].number, records[i].value, 2));
+        CHECK(answers(down, run, sizeof run, 7, 2, 1, LAS_OK, 36, 0));
 
         /* and so says the check of that record alone */
         uint64_t point[LAS_POINT_NUMBERS];
@@ -123,6 +151,7 @@ static void test_refused_records(void) {
     run[14] = 0x11;
     run[15] = 0x08;
     run[16] = 12;
+    CHECK(answers(down, run, sizeof run, 7, 2, 1, LAS_OK, 36, 0));
     las_convert_to_old(run, sizeof run, 7, 2, 1, dst, sizeof dst, row);
     CHECK(told(row, LAS_OK, 36, 0) && dst[14] == 0x09 && dst[15] == 0x0C);
     uint64_t point[LAS_POINT_NUMBERS];
@@ -154,6 +183,7 @@ static void test_refused_records(void) {
     infrared[37] = 1;
     las_convert_to_old(infrared, sizeof infrared, 8, 0, 1, dst, sizeof dst, row);
     CHECK(told(row, LAS_REFUSED_NIR, 256, 1));
+    CHECK(answers(down, infrared, sizeof infrared, 8, 0, 1, LAS_REFUSED_NIR, 256, 1));
 }
 
 /* A rank is judged by the limits of scaled angles, and told as the scaled angle that it is upgraded to. */

@@ -600,18 +600,28 @@ void las_strict_check(const uint64_t numbers[24], uint64_t row[3]);
  * values. las_strict_check answers of the new point what it answers of an old one, which has no near infrared. */
 void las_strict_upgraded(uint64_t numbers[24]);
 
+/* Whether las_convert_to_old can convert a run of count records of format 6 to 10, each with so many extra bytes; nothing is
+ * written, and the value is the count of bytes that the converted run needs. Refuses with LAS_REFUSED_NO_PAIR;
+ * LAS_REFUSED_RECORD_LENGTH where a record of the run is longer than 65,535 bytes, then where a converted one would be;
+ * LAS_REFUSED_SHORT; and then as las_strict_check does, with the number of the first record that it refuses. Never refuses with
+ * LAS_REFUSED_NO_ROOM. */
+void las_convert_ask_old(const uint8_t *src, size_t src_len, uint8_t format, uint16_t extra, uint64_t count, uint64_t row[3]);
+
+/* The same of las_convert_to_new and a run of format 1, 3, 4 or 5; no record is refused. */
+void las_convert_ask_new(const uint8_t *src, size_t src_len, uint8_t format, uint16_t extra, uint64_t count, uint64_t row[3]);
+
 /* Converts a run of count records of format 6 to 10, each with so many extra bytes, strictly into the old format of the pair
  * (6 to 1, 7 and 8 to 3, 9 to 4, 10 to 5), at the front of dst, and leaves what lies past it; the value is the count of
- * bytes. Refuses with LAS_REFUSED_NO_PAIR; LAS_REFUSED_RECORD_LENGTH where a record of the run is longer than 65,535 bytes,
- * then where a converted one would be; LAS_REFUSED_SHORT; LAS_REFUSED_NO_ROOM; and then as las_strict_check does, with the
- * number of the first record that it refuses; and leaves dst. */
+ * bytes. It asks las_convert_ask_old itself, and refuses as that does; then, where dst is shorter than the bytes that are
+ * needed, with LAS_REFUSED_NO_ROOM and these; and leaves dst. So a run that las_convert_ask_old lets go is refused for want of
+ * room alone, and one that it refuses is refused alike, whatever room there is. */
 void las_convert_to_old(const uint8_t *src, size_t src_len, uint8_t format, uint16_t extra, uint64_t count, uint8_t *dst,
                         size_t dst_len, uint64_t row[3]);
 
 /* Converts a run of count records of format 1, 3, 4 or 5, each with so many extra bytes, into the new format of the pair
  * (6, 7, 9, 10), at the front of dst, and leaves what lies past it; the value is the count of bytes. Refuses as
- * las_convert_to_old does, but no record. Each becomes what las_strict_upgraded says; the near infrared of format 10, which that
- * lacks, is 0. */
+ * las_convert_ask_new does, then with LAS_REFUSED_NO_ROOM, as las_convert_to_old. Each becomes what las_strict_upgraded says; the
+ * near infrared of format 10, which that lacks, is 0. */
 void las_convert_to_new(const uint8_t *src, size_t src_len, uint8_t format, uint16_t extra, uint64_t count, uint8_t *dst,
                         size_t dst_len, uint64_t row[3]);
 
