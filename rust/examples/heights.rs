@@ -22,8 +22,8 @@ fn main() -> Result<(), Box<dyn Error>> {
     }
 
     // For clients with older software: every field the same, or the first that cannot be.
-    match file.run().to_old() {
-        Ok(old) => println!("{} bytes in the old format", old.len()),
+    match file.run().ask_old() {
+        Ok(bytes) => println!("{bytes} bytes in the old format"),
         Err(refusal) => println!("not in the old format: {refusal}"),
     }
     Ok(())

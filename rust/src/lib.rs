@@ -42,7 +42,8 @@
 //! # }
 //! ```
 //!
-//! A run of point records is made old, or new, by [`Run`]; a file's points are one ([`File::run`]):
+//! A run of point records is made old, or new, by [`Run`], which also says beforehand whether that can be; a file's points are
+//! one ([`File::run`]):
 //!
 //! ```
 //! use inscjarol::{Flags, Format, Point, Run, ScanAngle};
@@ -56,7 +57,7 @@
 //! };
 //! let records = point.to_vec(Format::new(6)?)?;
 //! let run = Run { format: 6, extra_bytes: 0, count: 1, records: &records };
-//! let refusal = run.to_old().unwrap_err();
+//! let refusal = run.ask_old().unwrap_err();
 //! assert_eq!((refusal.number(), refusal.value(), refusal.record()), (19, 2, 1));
 //! # Ok(())
 //! # }

@@ -342,6 +342,14 @@ pub(crate) fn append_store(
 
 // Calls on runs of records: a format byte, a count of extra bytes and a count of records.
 
+pub(crate) fn convert_ask_old(src: &[u8], run: (u8, u16, u64)) -> Result<usize, Refusal> {
+    asked(|row| calls::las_convert_ask_old(src, run, row)).map(in_memory)
+}
+
+pub(crate) fn convert_ask_new(src: &[u8], run: (u8, u16, u64)) -> Result<usize, Refusal> {
+    asked(|row| calls::las_convert_ask_new(src, run, row)).map(in_memory)
+}
+
 pub(crate) fn convert_to_old(
     src: &[u8],
     run: (u8, u16, u64),

@@ -73,7 +73,7 @@ fn agree(bytes: &[u8]) -> bool {
         assert_eq!(rewritten, bytes);
     }
 
-    // Made old and new again, whatever comes of it.
+    // Made old and new again, whatever comes of it: it was told beforehand.
     let run = file.run();
     if let Ok(old) = run.to_old() {
         assert!(old.len() <= run.records.len());
@@ -81,6 +81,9 @@ fn agree(bytes: &[u8]) -> bool {
     if let Ok(new) = run.to_new() {
         assert!(new.len() >= run.records.len());
     }
+    let mut room = vec![0; 2 * run.records.len()];
+    assert_eq!(run.to_old_into(&mut room), run.ask_old());
+    assert_eq!(run.to_new_into(&mut room), run.ask_new());
     true
 }
 

@@ -40,6 +40,8 @@ const RECORD: (&str, &str, &str) = (
     "the VLR or EVLR, counted from 1, or 0",
 );
 const WORDS: (&str, &str, &str) = ("refusal.words", "text", "a sentence");
+const FORMAT: (&str, &str, &str) = ("format", "number", "point format, 0 to 10");
+const POINTS: (&str, &str, &str) = ("points", "number", "points");
 
 /// Every object that there is, with what it is printed for.
 const OBJECTS: &[(&str, Fields)] = &[
@@ -55,9 +57,9 @@ const OBJECTS: &[(&str, Fields)] = &[
             ("bytes", "number", "bytes of the file"),
             ("records", "number", "VLRs and EVLRs together"),
             ("version", "text", "of LAS, as 1.4"),
-            ("format", "number", "point format, 0 to 10"),
+            FORMAT,
             ("record_length", "number", "bytes of a point"),
-            ("points", "number", "points"),
+            POINTS,
             ("vlrs", "number", "VLRs"),
             ("evlrs", "number", "EVLRs"),
         ],
@@ -111,10 +113,10 @@ const OBJECTS: &[(&str, Fields)] = &[
             ("header_size", "number", "bytes, with padding"),
             ("padding", "number", "bytes of padding"),
             ("point_offset", "number", "first byte of the points"),
-            ("format", "number", "point format, 0 to 10"),
+            FORMAT,
             ("record_length", "number", "bytes of a point"),
             ("extra_bytes", "number", "how many of them are extra"),
-            ("points", "number", "points"),
+            POINTS,
             ("points_by_return[]", "number", "15, the first return first"),
             (
                 "scale[]",
@@ -155,6 +157,65 @@ const OBJECTS: &[(&str, Fields)] = &[
                 "first byte that belongs to no part",
             ),
             ("gaps[].length", "number", "bytes"),
+        ],
+    ),
+    (
+        "ask, for a file whose points can go:",
+        &[
+            NAME,
+            ACCEPTED,
+            ("can_go", "true", "every point can"),
+            FORMAT,
+            POINTS,
+            ("to_format", "number", "the format that they go to"),
+            (
+                "to_bytes",
+                "number",
+                "bytes that the points have then, all together",
+            ),
+        ],
+    ),
+    (
+        "ask, for a file whose points cannot:",
+        &[
+            NAME,
+            ACCEPTED,
+            (
+                "can_go",
+                "false",
+                "some point cannot, or its format has no pair",
+            ),
+            FORMAT,
+            POINTS,
+            NUMBER,
+            KIND,
+            VALUE,
+            (
+                "refusal.record",
+                "number",
+                "the first point that cannot, counted from 1, or 0",
+            ),
+            WORDS,
+            (
+                "x",
+                "number or null",
+                "where it lies; null where no point is told",
+            ),
+            ("y", "number or null", ""),
+            ("z", "number or null", ""),
+        ],
+    ),
+    (
+        "ask, for a file that is refused:",
+        &[
+            NAME,
+            NOT_ACCEPTED,
+            ("can_go", "false", ""),
+            NUMBER,
+            KIND,
+            VALUE,
+            RECORD,
+            WORDS,
         ],
     ),
     (

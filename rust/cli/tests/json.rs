@@ -120,6 +120,9 @@ fn every_field_that_is_printed_is_told_and_every_one_that_is_told_is_printed() {
     }
     let mut waveform = Header::new(Version { major: 1, minor: 3 }).unwrap();
     waveform.start_of_waveform_data_packet_record = Some(5);
+    let mut new = Header::new(Version { major: 1, minor: 4 }).unwrap();
+    new.point_data_record_format = 6;
+    new.point_data_record_length = 30;
     let mut half_zero = rich(6, 0);
     half_zero[243..247].copy_from_slice(&[0; 4]);
     let files = [
@@ -129,6 +132,7 @@ fn every_field_that_is_printed_is_told_and_every_one_that_is_told_is_printed() {
         folder.put("two.las", &two_points()),
         folder.put("half.las", &half_zero),
         folder.put("waveform.las", &waveform.to_vec(&[]).unwrap()),
+        folder.put("new.las", &new.to_vec(&[]).unwrap()),
         folder.put("cut.las", &plain(3)[..250]),
         folder.put("sample.las", &fs::read(sample()).unwrap()),
         folder.join("missing.las"),
@@ -163,6 +167,9 @@ fn every_field_that_is_printed_is_told_and_every_one_that_is_told_is_printed() {
                 (_, true, _) => "every command, for a file that cannot be read or written:",
                 ("check", _, true) => "check, for a file that is refused:",
                 ("append", _, true) => "append, where it is refused:",
+                ("ask", _, true) if has("format") => "ask, for a file whose points cannot:",
+                ("ask", _, true) => "ask, for a file that is refused:",
+                ("ask", ..) => "ask, for a file whose points can go:",
                 (_, _, true) => "parts, info, points and rewrite, for a file that is refused:",
                 ("check", ..) => "check, for a file that is accepted:",
                 ("parts", ..) => "parts, for a file that is accepted:",
@@ -182,7 +189,7 @@ fn every_field_that_is_printed_is_told_and_every_one_that_is_told_is_printed() {
         }
     };
     for path in &files {
-        for command in ["check", "parts", "info", "points"] {
+        for command in ["check", "parts", "info", "points", "ask"] {
             see(command, path, &[]);
         }
         let name = path.file_name().unwrap().to_str().unwrap();

@@ -269,7 +269,7 @@ fn what_cannot_be_read() {
         (folder.join("missing.las"), "there is no such file"),
         ("/dev/zero".into(), "it is a device, not a file"),
     ] {
-        for command in ["check", "parts", "info", "points"] {
+        for command in ["check", "parts", "info", "points", "ask"] {
             let (out, err, status) = on(&[command], &path);
             assert_eq!((out.as_str(), status), ("", Some(2)));
             assert!(err.contains(words), "{err}");
@@ -805,8 +805,10 @@ fn nothing_steers_the_terminal() {
         &["points", "--fields", "all"],
         &["points", "--fields", "nothing"],
         &["points", "--fields", "\x1b[2J,x\x1b"],
+        &["ask"],
         &["rewrite", "--force"],
         &["check", "--json"],
+        &["ask", "--json"],
         &["points", "--json", "--fields", "all"],
     ] {
         for path in [&path, &good, &folder.join("\x1bmissing")] {
@@ -1185,6 +1187,8 @@ fn wrong_use() {
         &["chek"],
         &["check"],
         &["points", "a", "b"],
+        &["ask"],
+        &["ask", "--to"],
         &["rewrite", "a"],
         &["check", "--jsn", "a"],
     ] {
@@ -1203,7 +1207,9 @@ fn help() {
         assert!(out.contains("Usage: inscjarol COMMAND") && out.contains("  rewrite "));
         assert_eq!((err.as_str(), status), ("", Some(0)));
     }
-    for command in ["check", "parts", "info", "points", "rewrite", "append"] {
+    for command in [
+        "check", "parts", "info", "points", "ask", "rewrite", "append",
+    ] {
         let (taught, _, status) = told(&run(&["help", command]));
         assert_eq!(status, Some(0));
         assert_eq!(told(&run(&[command, "--help"])).0, taught);

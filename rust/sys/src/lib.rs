@@ -331,6 +331,22 @@ mod lent {
             row: &mut Row,
         );
 
+        pub(super) fn las_convert_ask_old(
+            src: *const u8,
+            src_len: usize,
+            format: u8,
+            extra: u16,
+            count: u64,
+            row: &mut Row,
+        );
+        pub(super) fn las_convert_ask_new(
+            src: *const u8,
+            src_len: usize,
+            format: u8,
+            extra: u16,
+            count: u64,
+            row: &mut Row,
+        );
         pub(super) fn las_convert_to_old(
             src: *const u8,
             src_len: usize,
@@ -648,6 +664,22 @@ pub fn las_append_store(
 }
 
 // Calls on runs of records: a format byte, a count of extra bytes and a count of records.
+
+/// Whether a run can be converted strictly into the old format of its pair; the value is the bytes that it needs.
+#[inline]
+pub fn las_convert_ask_old(src: &[u8], run: (u8, u16, u64), row: &mut Row) {
+    let (format, extra, count) = run;
+    // SAFETY: pointer and length are those of one borrowed slice.
+    unsafe { lent::las_convert_ask_old(src.as_ptr(), src.len(), format, extra, count, row) }
+}
+
+/// Whether a run can be converted into the new format of its pair; the value is the bytes that it needs.
+#[inline]
+pub fn las_convert_ask_new(src: &[u8], run: (u8, u16, u64), row: &mut Row) {
+    let (format, extra, count) = run;
+    // SAFETY: pointer and length are those of one borrowed slice.
+    unsafe { lent::las_convert_ask_new(src.as_ptr(), src.len(), format, extra, count, row) }
+}
 
 /// Converts a run strictly into the old format of its pair.
 #[inline]
