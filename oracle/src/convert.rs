@@ -1,11 +1,13 @@
-//! Runs of point records, converted strictly and upgraded: by the port and by the rules of documents 01
-//! and 02 as `convert_model` has them.
+//! Runs of point records, asked about, converted strictly and upgraded: by the port and by the rules of
+//! documents 01 and 02 as `convert_model` has them.
 
 use crate::{
     answer::Answer,
     call::noise,
     capi::{self, Row},
-    convert_model::{DOWN, FLAGS, SCALED, UP, nir, record_bytes, to_new, to_old},
+    convert_model::{
+        DOWN, FLAGS, SCALED, UP, ask_new, ask_old, nir, record_bytes, to_new, to_old,
+    },
     convert_wrong::{ERRORS, StandIn},
     format,
     records::{self, Lcg},
@@ -16,6 +18,8 @@ use las::point::Format;
 /// The calls on runs. The port has them, and so have the stand-ins that test the comparison itself. A
 /// run is a format byte, a count of extra bytes and a count of records.
 pub trait Library: Sync {
+    fn ask_old(&self, src: &[u8], run: (u8, u16, u64), row: &mut Row);
+    fn ask_new(&self, src: &[u8], run: (u8, u16, u64), row: &mut Row);
     fn to_old(&self, src: &[u8], run: (u8, u16, u64), dst: &mut [u8], row: &mut Row);
     fn to_new(&self, src: &[u8], run: (u8, u16, u64), dst: &mut [u8], row: &mut Row);
 }
@@ -23,6 +27,14 @@ pub trait Library: Sync {
 struct Port;
 
 impl Library for Port {
+    fn ask_old(&self, src: &[u8], run: (u8, u16, u64), row: &mut Row) {
+        capi::las_convert_ask_old(src, run, row)
+    }
+
+    fn ask_new(&self, src: &[u8], run: (u8, u16, u64), row: &mut Row) {
+        capi::las_convert_ask_new(src, run, row)
+    }
+
     fn to_old(&self, src: &[u8], run: (u8, u16, u64), dst: &mut [u8], row: &mut Row) {
         capi::las_convert_to_old(src, run, dst, row)
     }
@@ -38,7 +50,7 @@ const BEFORE_BYTE: u8 = 0xa5;
 /// What is looked at past a destination, and what one may have too much.
 const SPARE: usize = 9;
 
-/// Which of the two calls.
+/// Which of the two ways.
 #[derive(Clone, Copy, Debug, PartialEq, Eq)]
 pub(crate) enum Way {
     Down,
@@ -46,7 +58,7 @@ pub(crate) enum Way {
 }
 use Way::*;
 
-/// What a run is made of, besides its records: which call, its format byte and its count of extra
+/// What a run is made of, besides its records: which way it goes, its format byte and its count of extra
 /// bytes.
 #[derive(Clone, Copy, Debug)]
 pub(crate) struct Shape {
@@ -192,14 +204,22 @@ const NUMBERS: [usize; 12] = [0, 1, 8, 15, 16, 17, 18, 19, 20, 21, 22, 26];
 /// How often each must have been answered, or else the run has not tested it.
 const OFTEN: u64 = 500;
 
-/// What comparing both calls came to, and how many records were converted and compared.
-type Outcome = report::Outcome<3, 1>;
+/// What comparing the calls came to, and how many records were converted and compared.
+type Outcome = report::Outcome<6, 1>;
 
-const CALLS: [&str; 3] = [
+const CALLS: [&str; 6] = [
     "las_convert_to_old",
     "las_convert_to_new",
+    "las_convert_ask_old",
+    "las_convert_ask_new",
+    "asked and converted alike",
     "upgraded and back",
 ];
+
+/// The places of the others, behind the two conversions.
+const ASK: usize = 2;
+const ALIKE: usize = 4;
+const BACK: usize = 5;
 
 /// Compares a library with the rules on one run after another. Everything is used again.
 struct Comparison<'a, L> {
@@ -228,7 +248,8 @@ impl<'a, L: Library> Comparison<'a, L> {
         self.run_into(shape, src, count, room, None);
     }
 
-    /// The same, and puts what the library wrote into `written`, if that is wanted. The library's answer.
+    /// The same, after the question about the run; and puts what the library wrote into `written`, if that
+    /// is wanted. The answer of the library's conversion.
     fn run_into(
         &mut self,
         shape: Shape,
@@ -246,12 +267,22 @@ impl<'a, L: Library> Comparison<'a, L> {
         self.lent.clear();
         self.lent.extend_from_slice(src);
         let dst = &mut self.rules[..room];
-        let rules = match way {
-            Down => to_old(src, format, extra, count, dst),
-            Up => to_new(src, format, extra, count, dst),
+        let (asks, rules) = match way {
+            Down => (
+                ask_old(src, format, extra, count),
+                to_old(src, format, extra, count, dst),
+            ),
+            Up => (
+                ask_new(src, format, extra, count),
+                to_new(src, format, extra, count, dst),
+            ),
         };
         let (lent, dst) = (&self.lent[..], &mut self.by_port[..room]);
         let run = (format, extra, count);
+        let asked = capi::row(|row| match way {
+            Down => self.port.ask_old(lent, run, row),
+            Up => self.port.ask_new(lent, run, row),
+        });
         let port = capi::row(|row| match way {
             Down => self.port.to_old(lent, run, dst, row),
             Up => self.port.to_new(lent, run, dst, row),
@@ -266,6 +297,20 @@ impl<'a, L: Library> Comparison<'a, L> {
                 "{run:?}, {size} bytes {first:02x?}, room {room}: the rules {rules}, port {port}, \
                  first differing byte {at:?}, source kept {kept}"
             )
+        });
+        self.outcome.reports[ASK + way as usize].check(asks == asked && kept, || {
+            let (size, first) = (src.len(), &src[..src.len().min(100)]);
+            format!("{run:?}, {size} bytes {first:02x?}: the rules {asks}, port {asked}")
+        });
+        // "For the same source, 22 aside, they never disagree."
+        let alike = match (asked.number, port.number) {
+            (0, 22) => port == Answer::refusal(22, asked.value) && (room as u64) < asked.value,
+            (0, _) => port == asked && asked.value <= room as u64,
+            (number, _) => port == asked && number != 22,
+        };
+        self.outcome.reports[ALIKE].check(alike, || {
+            let size = src.len();
+            format!("{run:?}, {size} bytes, room {room}: asked {asked}, converted {port}")
         });
         self.outcome.counted.answered(rules.number);
         let filled = match rules.number {
@@ -447,7 +492,10 @@ fn offenders<L: Library>(library: &L, _: Lot) -> Outcome {
                 let number = 15 + random.below(7);
                 offend(&mut src[record(second)], shape.format, number, &mut random);
             }
-            comparison.whole(shape, src, RUN);
+            // Whatever room there is, the record comes first.
+            let whole = shape.lengths()[1] * RUN as usize;
+            let room = [0, whole - 1, whole][random.below(3) as usize];
+            comparison.run(shape, src, RUN, room);
         },
     );
     let sets = over(library, 5 * 128 * 64, |comparison, record, i| {
@@ -663,7 +711,7 @@ fn upgrades<L: Library>(library: &L, lot: Lot) -> Outcome {
                         && written == src[..from * WITHIN]
                 }
             };
-            comparison.outcome.reports[2].check(same && none.is_empty(), || {
+            comparison.outcome.reports[BACK].check(same && none.is_empty(), || {
                 format!(
                     "format {format}, flags {one:#04x} {two:#04x}, {extra} extra bytes, all ranks, \
                      {} the first beyond: {beyond}, and of those within {within}",
@@ -725,6 +773,20 @@ fn compare_described(library: &impl Library) -> Report {
         report.check(same, || {
             format!("{flags:02x?} {angle}: {stated}, rules {rules} {by_rules:02x?}, port {port} {by_port:02x?}")
         });
+        // The question has the same answer, and "22 now comes after the record checks and only from the
+        // writing call".
+        let no_room = match stated.number {
+            0 => Answer::refusal(22, stated.value),
+            _ => stated,
+        };
+        let rules = [ask_old(&src, 6, 0, 1), to_old(&src, 6, 0, 1, &mut [])];
+        let port = [
+            capi::row(|row| library.ask_old(&src, (6, 0, 1), row)),
+            capi::row(|row| library.to_old(&src, (6, 0, 1), &mut [], row)),
+        ];
+        report.check([rules, port] == [[stated, no_room]; 2], || {
+            format!("{flags:02x?} {angle}, asked and without room: rules {rules:?}, port {port:?}")
+        });
     }
     // "rank 1 to 166, 3 to 500, -128 to -21,333"; "old (0x51,0x22): [...] upgrade (0x21,0x41,0x02)".
     for (rank, scaled) in [(1i8, 166i16), (3, 500), (-128, -21_333)] {
@@ -764,13 +826,17 @@ pub fn compare_stand_ins() -> Report {
     report
 }
 
-/// Compares a library and prints what came of it: both calls, and how often each number was answered.
+/// Compares a library and prints what came of it: the calls, and how often each number was answered by the
+/// conversions.
 pub fn compare_library(tally: &mut Tally, library: &impl Library) {
     tally.add(compare_described(library));
     let outcome = parts(library, FULL).fold(Outcome::new(CALLS), Outcome::and);
-    let [down, up, back] = outcome.reports;
+    let [down, up, ask_down, ask_up, alike, back] = outcome.reports;
     tally.add(down);
     tally.add(up);
+    tally.add(ask_down);
+    tally.add(ask_up);
+    tally.aside(alike);
     tally.aside(back);
     tally.add(outcome.counted.tell(
         "conversion answers, each many times",

@@ -1,6 +1,6 @@
-//! Document 01's rules about strict conversion and upgrade, with document 02's on ranks, written from
-//! their text alone: which runs of point records are refused, with what, and what is written of those
-//! that are not.
+//! Document 01's rules about strict conversion and upgrade, with document 02's on ranks and on asking
+//! before converting, written from their text alone: which runs of point records are refused, with what,
+//! how many bytes those need that are not, and what is written of them.
 //!
 //! The Rust has no such calls, so that the port is compared with this. It shares nothing with the
 //! port but the text, and works on bytes, without the Rust's points too. Sums and products are
@@ -205,11 +205,6 @@ fn up(from: &[u8], format: u8, to: &mut [u8]) {
     to[after..].copy_from_slice(&from[OLD_TIME + both..]);
 }
 
-/// "bytes wanted in all, 0 if over 2^64-1".
-fn wanted(number: u64, bytes: u128) -> Answer {
-    Answer::refusal(number, u64::try_from(bytes).unwrap_or(0))
-}
-
 /// What keeps a record of a format from being converted, and its value.
 type Offence = fn(&[u8], u8) -> Option<(u64, u64)>;
 
@@ -221,14 +216,33 @@ struct Direction {
     record: fn(&[u8], u8, &mut [u8]),
 }
 
+/// Strict conversion of a run of extended records to the old format of their pair.
+const TO_OLD: Direction = Direction {
+    pairs: &DOWN,
+    offence,
+    record: down,
+};
+
+/// Upgrade of a run of old records, which "has none of these record checks".
+const TO_NEW: Direction = Direction {
+    pairs: &UP,
+    offence: |_, _| None,
+    record: up,
+};
+
 impl Direction {
-    /// The answer, and what is written of a run that is not refused: "If all fit, each record goes into
-    /// the rest of the destination and bytes past the run stay."
-    fn convert(&self, src: &[u8], format: u8, extra: u16, count: u64, dst: &mut [u8]) -> Answer {
-        let Some(&(_, target)) = self.pairs.iter().find(|pair| pair.0 == format) else {
+    /// The bytes of a record before and after, if the format has a pair.
+    fn lengths(&self, format: u8, extra: u16) -> Option<[u128; 2]> {
+        let (_, target) = self.pairs.iter().find(|pair| pair.0 == format)?;
+        Some([format, *target].map(|format| record_bytes(format, extra)))
+    }
+
+    /// Document 02, No. 10: "a question, with no destination, that gives the first refusal other than 22
+    /// or the bytes needed".
+    fn ask(&self, src: &[u8], format: u8, extra: u16, count: u64) -> Answer {
+        let Some(lengths) = self.lengths(format, extra) else {
             return Answer::refusal(26, format);
         };
-        let lengths = [format, target].map(|format| record_bytes(format, extra));
         for length in lengths {
             if length > LONGEST {
                 return Answer::refusal(8, length as u64);
@@ -236,15 +250,12 @@ impl Direction {
         }
         let [source, target] = lengths.map(|length| length * u128::from(count));
         if (src.len() as u128) < source {
-            return wanted(1, source);
-        }
-        if (dst.len() as u128) < target {
-            return wanted(22, target);
+            // "bytes wanted in all, 0 if over 2^64-1"
+            return Answer::refusal(1, u64::try_from(source).unwrap_or(0));
         }
         // The run is no longer than what is lent, so that its lengths are those of slices.
-        let [from, to] = lengths.map(|length| length as usize);
-        let run = src[..source as usize].chunks_exact(from);
-        for (record, bytes) in (1..).zip(run.clone()) {
+        let run = src[..source as usize].chunks_exact(lengths[0] as usize);
+        for (record, bytes) in (1..).zip(run) {
             if let Some((number, value)) = (self.offence)(bytes, format) {
                 return Answer {
                     number,
@@ -253,29 +264,44 @@ impl Direction {
                 };
             }
         }
-        for (bytes, dst) in run.zip(dst.chunks_exact_mut(to)) {
+        Answer::result(target as u64)
+    }
+
+    /// "and a writing call that asks it itself. [...] 22 now comes after the record checks and only from
+    /// the writing call". What it writes is document 01's: "If all fit, each record goes into the rest of
+    /// the destination and bytes past the run stay."
+    fn convert(&self, src: &[u8], format: u8, extra: u16, count: u64, dst: &mut [u8]) -> Answer {
+        let asked = self.ask(src, format, extra, count);
+        let Some([from, to]) = self.lengths(format, extra).filter(|_| asked.number == 0) else {
+            return asked;
+        };
+        if (dst.len() as u64) < asked.value {
+            return Answer::refusal(22, asked.value);
+        }
+        let run = src.chunks_exact(from as usize).take(count as usize);
+        for (bytes, dst) in run.zip(dst.chunks_exact_mut(to as usize)) {
             (self.record)(bytes, format, dst);
         }
-        Answer::result(target as u64)
+        asked
     }
 }
 
-/// Strict conversion of a run of extended records to the old format of their pair.
-pub fn to_old(src: &[u8], format: u8, extra: u16, count: u64, dst: &mut [u8]) -> Answer {
-    let down = Direction {
-        pairs: &DOWN,
-        offence,
-        record: down,
-    };
-    down.convert(src, format, extra, count, dst)
+/// Whether a run goes down, and with how many bytes.
+pub fn ask_old(src: &[u8], format: u8, extra: u16, count: u64) -> Answer {
+    TO_OLD.ask(src, format, extra, count)
 }
 
-/// Upgrade of a run of old records, which "has none of these record checks".
+/// Whether a run goes up.
+pub fn ask_new(src: &[u8], format: u8, extra: u16, count: u64) -> Answer {
+    TO_NEW.ask(src, format, extra, count)
+}
+
+/// A run converted down, at the front of the destination.
+pub fn to_old(src: &[u8], format: u8, extra: u16, count: u64, dst: &mut [u8]) -> Answer {
+    TO_OLD.convert(src, format, extra, count, dst)
+}
+
+/// A run converted up.
 pub fn to_new(src: &[u8], format: u8, extra: u16, count: u64, dst: &mut [u8]) -> Answer {
-    let up = Direction {
-        pairs: &UP,
-        offence: |_, _| None,
-        record: up,
-    };
-    up.convert(src, format, extra, count, dst)
+    TO_NEW.convert(src, format, extra, count, dst)
 }

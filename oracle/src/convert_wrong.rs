@@ -1,5 +1,5 @@
-//! A stand-in for the port's calls on runs of records, into which an error can be put. The comparison
-//! is tested with it: each error must be seen.
+//! A stand-in for the port's calls on runs of records, questions and conversions, into which an error can
+//! be put. The comparison is tested with it: each error must be seen.
 //!
 //! It is written apart from `convert_model` and otherwise: each record becomes a list of fields, the
 //! flags are words, angles are f64, and products are checked in 64 bits.
@@ -34,6 +34,18 @@ errors! {
     AngleBeforeNir,
     WritesBeforeJudging,
     RestOfDestinationCleared,
+    AsksOfFirstRecordOnly,
+    LastRecordNotAskedOf,
+    AskedBytesOfSourceFormat,
+    AskedByWritingIntoNoRoom,
+    AskedWithoutLookAtSource,
+    AskedUpRefusesClass28,
+    RoomForTheSource,
+    RoomBeforeRecords,
+    RoomOfOneLessIsEnough,
+    NoRoomTellsWhatIsThere,
+    NoRoomTellsTheLastRecord,
+    RunOfNoneAlwaysGoes,
     ProductIn64Bits,
     ProductIn32Bits,
     ValueOver64BitsWraps,
@@ -284,15 +296,44 @@ impl StandIn {
         Ok(())
     }
 
-    /// A run in either direction. What is written goes into `dst` record by record where the error
-    /// says so, and all at once otherwise.
+    /// The room that is wanted but not there, if so; a question has none and wants none.
+    fn no_room(&self, dst: &Option<&mut [u8]>, lengths: [u64; 2], count: u64) -> Result<(), Row> {
+        let [source, target] = lengths;
+        let length = if self.has(RoomForTheSource) {
+            source
+        } else {
+            target
+        };
+        let Some(mut there) = dst.as_ref().map(|dst| dst.len()) else {
+            return Ok(());
+        };
+        if self.has(RoomOfOneLessIsEnough) {
+            there += 1;
+        }
+        self.short(22, there, length, count)
+            .map_err(|[number, value, _]| match () {
+                () if self.has(NoRoomTellsWhatIsThere) => [number, there as u64, 0],
+                () if self.has(NoRoomTellsTheLastRecord) => [number, value, count],
+                () => [number, value, 0],
+            })
+    }
+
+    /// A run in either direction, or the question about it, which has no destination. What is written goes
+    /// into `dst` record by record where the error says so, and all at once otherwise.
     fn run(
         &self,
         pairs: &[[u8; 2]],
         src: &[u8],
         (code, extra, count): (u8, u16, u64),
-        dst: &mut [u8],
+        mut dst: Option<&mut [u8]>,
     ) -> Result<u64, Row> {
+        let asks = dst.is_none();
+        if asks && self.has(AskedByWritingIntoNoRoom) {
+            return self.run(pairs, src, (code, extra, count), Some(&mut []));
+        }
+        if count == 0 && self.has(RunOfNoneAlwaysGoes) {
+            return Ok(0);
+        }
         let extra = u64::from(extra);
         if self.has(LengthBeforePair) && extra > 65_515 {
             return Err([8, 20 + extra, 0]);
@@ -313,11 +354,16 @@ impl StandIn {
         if room > 65_535 && !self.has(TargetLengthNotSeen) {
             return Err([8, room, 0]);
         }
+        let lengths = [step, room];
         if self.has(RoomBeforeSource) {
-            self.short(22, dst.len(), room, count)?;
+            self.no_room(&dst, lengths, count)?;
         }
-        self.short(1, src.len(), step, count)?;
-        self.short(22, dst.len(), room, count)?;
+        if !(asks && self.has(AskedWithoutLookAtSource)) {
+            self.short(1, src.len(), step, count)?;
+        }
+        if self.has(RoomBeforeRecords) {
+            self.no_room(&dst, lengths, count)?;
+        }
         if self.has(RefusesEveryRun) {
             return Err([15, 8, 1]);
         }
@@ -328,7 +374,16 @@ impl StandIn {
         let mut first: Option<Vec<u8>> = None;
         let whole = (src.len() as u64 / step).min(count);
         for k in 0..whole {
+            if asks && k > 0 && self.has(AsksOfFirstRecordOnly) {
+                break;
+            }
+            if asks && k + 1 == whole && self.has(LastRecordNotAskedOf) {
+                break;
+            }
             let bytes = &src[(k * step) as usize..][..step as usize];
+            if asks && to.0 && bytes[15] & 31 == 28 && self.has(AskedUpRefusesClass28) {
+                return Err([19, 28, k + 1]);
+            }
             let number = if self.has(RecordNumberFrom0) {
                 k
             } else {
@@ -351,21 +406,31 @@ impl StandIn {
                 first = Some(record.clone());
             }
             if self.has(WritesBeforeJudging) {
-                dst[made.len()..][..record.len()].copy_from_slice(&record);
+                let rest = dst.as_mut().and_then(|dst| dst.get_mut(made.len()..));
+                if let Some(to) = rest.and_then(|rest| rest.get_mut(..record.len())) {
+                    to.copy_from_slice(&record);
+                }
             }
             made.extend(record);
         }
+        self.no_room(&dst, lengths, count)?;
         if self.has(SameBytesEachTime) {
             made.fill(0);
         }
-        if self.has(RestOfDestinationCleared) {
-            dst.fill(0);
+        if let Some(dst) = dst {
+            if self.has(RestOfDestinationCleared) {
+                dst.fill(0);
+            }
+            if !self.has(DestinationLeftAsFound) {
+                let fits = made.len().min(dst.len());
+                dst[..fits].copy_from_slice(&made[..fits]);
+            }
         }
-        if !self.has(DestinationLeftAsFound) {
-            let fits = made.len().min(dst.len());
-            dst[..fits].copy_from_slice(&made[..fits]);
-        }
-        Ok(room.wrapping_mul(count))
+        let length = match asks && self.has(AskedBytesOfSourceFormat) {
+            true => lengths[0],
+            false => room,
+        };
+        Ok(length.wrapping_mul(count))
     }
 }
 
@@ -373,14 +438,23 @@ fn told(answer: Result<u64, Row>, row: &mut Row) {
     *row = answer.map_or_else(|refusal| refusal, |bytes| [0, bytes, 0]);
 }
 
+const DOWN: [[u8; 2]; 5] = [[6, 1], [7, 3], [8, 3], [9, 4], [10, 5]];
+const UP: [[u8; 2]; 4] = [[1, 6], [3, 7], [4, 9], [5, 10]];
+
 impl Library for StandIn {
+    fn ask_old(&self, src: &[u8], run: (u8, u16, u64), row: &mut Row) {
+        told(self.run(&DOWN, src, run, None), row);
+    }
+
+    fn ask_new(&self, src: &[u8], run: (u8, u16, u64), row: &mut Row) {
+        told(self.run(&UP, src, run, None), row);
+    }
+
     fn to_old(&self, src: &[u8], run: (u8, u16, u64), dst: &mut [u8], row: &mut Row) {
-        let pairs = [[6, 1], [7, 3], [8, 3], [9, 4], [10, 5]];
-        told(self.run(&pairs, src, run, dst), row);
+        told(self.run(&DOWN, src, run, Some(dst)), row);
     }
 
     fn to_new(&self, src: &[u8], run: (u8, u16, u64), dst: &mut [u8], row: &mut Row) {
-        let pairs = [[1, 6], [3, 7], [4, 9], [5, 10]];
-        told(self.run(&pairs, src, run, dst), row);
+        told(self.run(&UP, src, run, Some(dst)), row);
     }
 }
