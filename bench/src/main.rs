@@ -69,6 +69,15 @@ const REWRITE: Line = Line {
     port: Work::port_rewrite,
 };
 
+/// Whether a run goes to the old format: what judging alone takes, beside the Rust reading the points.
+const QUESTION: Line = Line {
+    name: "question before strict conversion",
+    memcpy: Work::copy_points,
+    rust: Work::rust_read,
+    port: Work::port_ask_old,
+    ..REWRITE
+};
+
 const TO_OLD: Line = Line {
     name: "strict conversion",
     memcpy: Work::copy_points,
@@ -107,13 +116,14 @@ const CHECK: Line = Line {
     ..READ
 };
 
-const LINES: [Line; 11] = [
+const LINES: [Line; 12] = [
     READ,
     WRITE,
     WALK,
     SUMS,
     COLUMNS,
     REWRITE,
+    QUESTION,
     TO_OLD,
     TO_OLD_BY_HAND,
     TO_NEW,

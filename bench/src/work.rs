@@ -404,6 +404,14 @@ impl Work {
         black_box(&mut self.port_made);
     }
 
+    /// Records of format 6, which have 28 bytes each in format 1.
+    pub fn port_ask_old(&mut self) {
+        let mut row = [u64::MAX; 3];
+        let run = (self.code, 0, self.count as u64);
+        capi::las_convert_ask_old(black_box(self.records()), run, &mut row);
+        assert_eq!(row, [0, (self.count * by_hand::OLD) as u64, 0]);
+    }
+
     fn port_convert(&mut self, convert: Convert) {
         let mut row = [0; 3];
         let records = &self.file[POINTS_AT..][..self.count * self.record];
