@@ -1,7 +1,7 @@
 -- The tests are those by which `held` is defined; where both fail, the number fits.
 use borrow.Author.Tests.{ltb-false}
 use mathlib.Core.Path.{_≡_}
-use mathlib.Core.Bool.{false}
+use mathlib.Core.Bool.{true, false}
 use native.Mathlib.Omega.{arith}
 use lib.IntN.{ℤ, pos, negsuc}
 use lib.Signed.{ltZ}
@@ -21,7 +21,7 @@ seen c = toZ-ofZ w16 (c .args .k) (c .fits .k)
 
 returns : tie.Need-returns
 unfolding held
-returns c = rw (rw (seen (c .before)) at (c .if1 .taken))
+returns c = let below : ltZ (c .before .args .k) (negsuc 127) ≡ true = rw (seen (c .before)) at (c .if1 .taken) in rw below
 
 low : (c : tie.Else1) → ltZ (c .before .args .k) (negsuc 127) ≡ false
 low c = rw (seen (c .before)) at (c .if1 .left)

@@ -43,10 +43,14 @@ seen : (c : tie.Start) → toZ w16 (ofZ w16 (c .args .n)) ≡ c .args .n
 seen c = toZ-ofZ w16 (c .args .n) (c .fits .n)
 
 returns : tie.Need-returns
-returns c = rw (seen (c .before), between, rw (seen (c .before)) at (c .if1 .taken))
+returns c =
+    let above : leZ (negsuc 15082) (c .before .args .n) ≡ true = rw (seen (c .before)) at (c .if1 .taken) in
+    rw (seen (c .before), between, above)
 
 returns-2 : tie.Need-returns-2
-returns-2 c = rw (seen (c .before), between, rw (seen (c .before)) at (c .if1 .left))
+returns-2 c =
+    let under : leZ (negsuc 15082) (c .before .args .n) ≡ false = rw (seen (c .before)) at (c .if1 .left) in
+    rw (seen (c .before), between, under)
 
 pub scaled-fits-spec : {M : Type 1} → statement M
 scaled-fits-spec = tie.close (tie.spec returns returns-2)
