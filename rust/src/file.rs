@@ -176,7 +176,7 @@ impl<'a> File<'a> {
         }
     }
 
-    /// The points as a run of records, to be converted.
+    /// The points as a run of records, to be asked about and converted.
     pub fn run(&self) -> Run<'a> {
         let points = self.parts().find(|part| part.kind == PartKind::Points);
         Run {
