@@ -47,6 +47,12 @@ pub enum Refusal {
     CountNeither,
     // A count would pass 2^32 - 1.
     CountTooLarge,
+    // No. 3, whole files: not a version and format that has a way up, or down.
+    OtherVersionOrFormat,
+    // EVLRs or a waveform start are there.
+    EvlrsOrWaveforms,
+    // The counts have no place in an old header.
+    CountsTooLargeForOld,
 }
 
 // A refusal as document 01 returns it: number, value and record number.
@@ -93,6 +99,9 @@ impl Refusal {
             Refusal::NoRecords => 29,
             Refusal::CountNeither => 30,
             Refusal::CountTooLarge => 31,
+            Refusal::OtherVersionOrFormat => 32,
+            Refusal::EvlrsOrWaveforms => 33,
+            Refusal::CountsTooLargeForOld => 34,
         }
     }
 
@@ -132,6 +141,9 @@ impl Refusal {
             Refusal::NoRecords => 0,
             Refusal::CountNeither => 0,
             Refusal::CountTooLarge => 0,
+            Refusal::OtherVersionOrFormat => 0,
+            Refusal::EvlrsOrWaveforms => 0,
+            Refusal::CountsTooLargeForOld => 0,
         }
     }
 
