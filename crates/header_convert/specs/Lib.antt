@@ -1,0 +1,6 @@
+-- definitions
+pub mod Turned
+pub mod Steps
+-- laws
+pub mod Lists
+pub mod Goes
