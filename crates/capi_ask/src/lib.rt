@@ -35,7 +35,7 @@ pub extern "C" fn las_convert_ask_new(
 }
 
 // The row of a verdict.
-fn tell(verdict: Verdict, row: &mut [u64; 3])
+pub fn tell(verdict: Verdict, row: &mut [u64; 3])
     ensures { λ _. ⌜ now (row .exit) ≡ askedRow verdict ⌝ }
 {
     match verdict {

@@ -36,7 +36,7 @@ pub extern "C" fn las_convert_to_new(
 }
 
 // The row of a conversion.
-fn tell(converted: Converted, row: &mut [u64; 3])
+pub fn tell(converted: Converted, row: &mut [u64; 3])
     ensures { λ _. ⌜ now (row .exit) ≡ convertedRow converted ⌝ }
 {
     match converted {

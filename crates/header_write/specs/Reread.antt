@@ -4,7 +4,7 @@ use mathlib.Core.Path.{_≡_, refl, sym, ap, _∙_}
 use mathlib.Core.List.{List, [], _∷_, _++_, append-assoc, append-nil}
 use native.Mathlib.Nat.{add-sub-cancel-left}
 use native.Mathlib.Omega.{arith}
-use borrow.Author.Tests.{eq-eqb}
+use borrow.Author.Tests.{eq-eqb, le-leb}
 use lib.Dec.{eqb, leb}
 use lib.ListN.{length, take, drop, length-append}
 use lib.Seq.{take-at, drop-at}
@@ -36,7 +36,7 @@ module _ (h : Header) (padding : List ℕ) (r : Readable h padding) where
   wide : Wide width (fieldBytes h) (fieldsOf (h .version .minor))
   wide = each (h .version .minor) (mapped (λ f fit. value-wide (kind f) (valueOf h f) fit) fields14 (r .fits))
 
-  length-is : length (block h) ≡ size (fieldsOf (h .version .minor))
+  pub length-is : length (block h) ≡ size (fieldsOf (h .version .minor))
   unfolding block
   length-is = length-joined width (fieldBytes h) (fieldsOf (h .version .minor)) wide
 
@@ -181,6 +181,11 @@ module _ (h : Header) (padding : List ℕ) (r : Readable h padding) where
         padding-whole written judged-again
         ∙ rw (add-sub-cancel-left, append-assoc (block h) padding rest, drop-at (block h) (padding ++ rest) end length-is)
         (take-at padding rest (length padding) refl)
+
+  -- where there is room, the writer answers the count and leaves the rest
+  pub with-room : (d : List ℕ) → size (fieldsOf (h .version .minor)) + length padding ≤ length d → let n = size (fieldsOf (h .version .minor)) + length padding in wroteOf h padding d ≡ (Bytes n, (block h ++ padding) ++ drop n d)
+  unfolding wroteOf wroteBy
+  with-room d room = rw (standard-is (h .version) (r .major) (r .minor), le-leb _ _ room)
 
   -- what a write leaves that is answered with a count
   wrote : (d d′ : List ℕ) {m : ℕ} → wroteOf h padding d ≡ (Bytes m, d′) → (m ≡ size (fieldsOf (h .version .minor)) + length padding) × (d′ ≡ (block h ++ padding) ++ drop m d)

@@ -65,11 +65,15 @@ pub no-evlrs : (h : Header) → h .evlr ≡ pair.None → (outlineOf h .«start_
 unfolding outlineOf
 no-evlrs h none = (ap evlrStart none, ap evlrCount none)
 
--- three of its numbers, for whoever has the header
+-- some of its numbers, for whoever has the header
 module _ (h : Header) where
   pub header-size-is : outlineOf h .«header_size» ≡ h .«header_size»
   unfolding outlineOf
   header-size-is = refl
+
+  pub offset-is : outlineOf h .«offset_to_point_data» ≡ h .«offset_to_point_data»
+  unfolding outlineOf
+  offset-is = refl
 
   pub count-is : outlineOf h .«number_of_point_records» ≡ pointsOf h
   unfolding outlineOf

@@ -1,0 +1,10 @@
+-- definitions
+pub mod Migrate
+pub mod Steps
+-- laws
+pub mod Way
+pub mod Moved
+pub mod Laws
+pub mod Told
+pub mod Front
+pub mod Done
