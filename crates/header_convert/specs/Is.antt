@@ -1,7 +1,7 @@
 -- What it is to be of a version and of one of two formats.
 use Prim.Native.Nat.{ℕ}
 use mathlib.Core.Path.{_≡_, refl}
-use mathlib.Core.Bool.{Bool, true, false, _&&_, _||_, and-eq-true-iff}
+use mathlib.Core.Bool.{Bool, true, false, _&&_, _||_, and-eq-true-iff, or-true}
 use mathlib.Core.Logic.{_⊎_, inl, inr}
 use borrow.Author.Tests.{eqb-true, eq-eqb}
 use lib.Dec.{eqb}
@@ -29,3 +29,9 @@ module _ (minor one other : ℕ) (h : Header) (is : isOf minor one other h ≡ t
       go : (eqb (h .«point_data_record_format») one ≡ true) ⊎ (eqb (h .«point_data_record_format») other ≡ true) → (h .«point_data_record_format» ≡ one) ⊎ (h .«point_data_record_format» ≡ other)
       go (inl e) = inl (eqb-true _ _ e)
       go (inr e) = inr (eqb-true _ _ e)
+
+-- and it is so where these hold
+pub is-of : (minor one other : ℕ) (h : Header) → h .version .major ≡ 1 → h .version .minor ≡ minor → (h .«point_data_record_format» ≡ one) ⊎ (h .«point_data_record_format» ≡ other) → isOf minor one other h ≡ true
+unfolding isOf
+is-of minor one other h major is (inl e) = rw (eq-eqb _ 1 major, eq-eqb _ minor is, eq-eqb _ one e)
+is-of minor one other h major is (inr e) = rw (eq-eqb _ 1 major, eq-eqb _ minor is, eq-eqb _ other e) (or-true (eqb (h .«point_data_record_format») one))

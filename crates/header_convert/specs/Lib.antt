@@ -6,4 +6,5 @@ pub mod Lists
 pub mod Is
 pub mod Goes
 pub mod Told
+pub mod Back
 pub mod Readable

@@ -31,7 +31,7 @@ module _ (up : Bool) (h : Header) (s : List ℕ) (g : Goer up h s) where
   abbrev new : Header
   new = otherOf up h
 
-  own-readable : Readable h (paddingOf s)
+  pub own-readable : Readable h (paddingOf s)
   own-readable = subst (λ (x : Header). Readable x (paddingOf s)) (sym (g .ready .read)) (readable s (g .ready .bytes) (holds-judged s (g .ready .holds .header)))
 
   pub other-readable : Readable new (paddingOf s)

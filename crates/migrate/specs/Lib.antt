@@ -8,3 +8,8 @@ pub mod Laws
 pub mod Told
 pub mod Front
 pub mod Done
+pub mod New
+pub mod Again
+pub mod Answer
+pub mod Back
+pub mod Exact

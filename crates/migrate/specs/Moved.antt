@@ -45,7 +45,7 @@ pub record Moved (up : Bool) (o n : Outline) : Type 0 where
   pub evlrs : n .«number_of_evlrs» ≡ 0
 
 -- the codes
-up-way : (f : ℕ) → (f ≡ 1) ⊎ (f ≡ 3) → Way true f (newCode f)
+pub up-way : (f : ℕ) → (f ≡ 1) ⊎ (f ≡ 3) → Way true f (newCode f)
 unfolding newCode
 up-way f (inl e) = rw e up-1
 up-way f (inr e) = rw e up-3
@@ -82,6 +82,17 @@ moved-down h g =
       evlrs = refl;
     }
 
+-- the points of an accepted file are of the format of their code, and each has the record length
+module _ (allowance : ℕ) (s : List ℕ) (held : Holds allowance s) where
+  holds-format : let y = outlineOf (readOf s .header) in pointFormat y ≡ formatWith (y .«point_data_record_format») (extraIn y)
+  unfolding formatWith
+  holds-format =
+      let own = format-is allowance s held in
+      own ∙ ap (λ (f : Format). withExtra (f .«extra_bytes») (coded (outlineOf (readOf s .header) .«point_data_record_format») false)) (sym own)
+
+  pub holds-length : let y = outlineOf (readOf s .header) in recordBytes (formatWith (y .«point_data_record_format») (extraIn y)) ≡ y .«point_data_record_length»
+  holds-length = ap recordBytes (sym holds-format) ∙ format-long allowance s held
+
 -- and of a file whose header goes
 module _ (up : Bool) (h : Header) (s : List ℕ) (g : Goer up h s) where
   abbrev o : Outline
@@ -109,19 +120,9 @@ module _ (up : Bool) (h : Header) (s : List ℕ) (g : Goer up h s) where
   pub parts : PartsHold (standardIn s) (number VersionMinor s) (g .ready .allowance) o s
   parts = subst (λ (x : Header). PartsHold (standardIn s) (number VersionMinor s) (g .ready .allowance) (outlineOf x) s) (sym (g .ready .read)) (g .ready .holds .parts)
 
-  -- the points are of the format of their code
-  pub format-with : pointFormat o ≡ formatWith (o .«point_data_record_format») (extraIn o)
-  unfolding formatWith
-  format-with =
-      let own = format-is (g .ready .allowance) s (g .ready .holds) in
-      subst (λ (x : Header). let y = outlineOf x in pointFormat y ≡ formatWith (y .«point_data_record_format») (extraIn y)) (sym (g .ready .read))
-      (own ∙ ap (λ (f : Format). withExtra (f .«extra_bytes») (coded (outlineOf (readOf s .header) .«point_data_record_format») false)) (sym own))
-
-  -- and each has the record length, before and after
+  -- each point has the record length, before and after
   pub source-length : recordBytes (formatWith (o .«point_data_record_format») (extraIn o)) ≡ o .«point_data_record_length»
-  source-length =
-      ap recordBytes (sym format-with)
-      ∙ subst (λ (x : Header). recordBytes (pointFormat (outlineOf x)) ≡ outlineOf x .«point_data_record_length») (sym (g .ready .read)) (format-long (g .ready .allowance) s (g .ready .holds))
+  source-length = subst (λ (x : Header). let y = outlineOf x in recordBytes (formatWith (y .«point_data_record_format») (extraIn y)) ≡ y .«point_data_record_length») (sym (g .ready .read)) (holds-length (g .ready .allowance) s (g .ready .holds))
 
   pub target-length : recordBytes (formatWith (n .«point_data_record_format») (extraIn o)) ≡ n .«point_data_record_length»
   target-length = go up (two-bytes (extraIn o) (moved .format)) (moved .each)

@@ -1,5 +1,5 @@
 -- The ways of the points: from one format to the other, in records that are two bytes longer or shorter, by the plan of the two.
-use Prim.Native.Nat.{ℕ, _+_, _*_, _≤_}
+use Prim.Native.Nat.{ℕ, _+_, _*_, _-_, _≤_}
 use mathlib.Core.Path.{_≡_, refl, sym, ap, subst, _∙_}
 use mathlib.Core.Bool.{Bool, true, false}
 use mathlib.Core.List.{List}
@@ -7,10 +7,14 @@ use native.Mathlib.Omega.{arith}
 use Rattle.refusal.specs.declared.Refusal.{Refusal}
 use Rattle.format.specs.declared.Format.{Format}
 use Rattle.format.specs.declared.FormatLen.{FormatLen}
+use Rattle.format.specs.Format.{withExtra}
+use Rattle.format.specs.Codes.{coded}
 use Rattle.format.specs.Fields.{recordBytes, lenOf}
 use Rattle.format.specs.Laws.{record-sum}
 use Rattle.format.specs.Attributes.{code-attributes}
 use Rattle.format.specs.Length as format
+use Rattle.rules.specs.Rules.{formatBytes}
+use Rattle.rules.specs.Laws.{filled-bytes}
 use Rattle.pairs.specs.declared.Plan.{Plan}
 use Rattle.pairs.specs.Pairs.{formatWith, oldPair, newPair, lengthsOf}
 use Rattle.judge.specs.declared.Judged.{Judged}
@@ -56,6 +60,18 @@ module _ (extra : ℕ) where
   two-bytes up-3 = omega (arith, bytes-3, bytes-7)
   two-bytes down-6 = omega (arith, bytes-1, bytes-6)
   two-bytes down-7 = omega (arith, bytes-3, bytes-7)
+
+-- a format's records are longer by their extra bytes, and tell how many these are
+module _ (code : ℕ) where
+  pub bytes-least : (extra : ℕ) → formatBytes code ≤ recordBytes (formatWith code extra)
+  unfolding formatWith
+  bytes-least extra =
+      let none : formatBytes code - formatBytes code ≡ 0 = omega arith in
+      omega (arith, filled-bytes code (formatBytes code) (omega arith), none, record-sum (withExtra (formatBytes code - formatBytes code) (coded code false)), record-sum (withExtra extra (coded code false)))
+
+  pub extra-is : (x y : ℕ) → recordBytes (formatWith code x) ≡ recordBytes (formatWith code y) → x ≡ y
+  unfolding formatWith
+  extra-is x y e = omega (arith, record-sum (withExtra x (coded code false)), record-sum (withExtra y (coded code false)))
 
 -- what the question of a run answers, by the lengths of the two formats
 pub asked : {up : Bool} {a b : ℕ} → Way up a b → (extra count : ℕ) (s : List ℕ) → let f = formatWith a extra in let g = formatWith b extra in askOf up a extra count s ≡ verdictBy up count s (lengthsOf f g (lenOf f) (lenOf g))

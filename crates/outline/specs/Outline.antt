@@ -75,6 +75,10 @@ module _ (h : Header) where
   unfolding outlineOf
   offset-is = refl
 
+  pub code-is : outlineOf h .«point_data_record_format» ≡ h .«point_data_record_format»
+  unfolding outlineOf
+  code-is = refl
+
   pub count-is : outlineOf h .«number_of_point_records» ≡ pointsOf h
   unfolding outlineOf
   count-is = refl
