@@ -119,16 +119,16 @@ module _ (up : Bool) (allowance : ℕ) (s : List ℕ) where
 
   -- what is left where bytes were written: the new file, and what lay past it
   module _ (bytes : le.Bytes s) (d : List ℕ) {n : ℕ} {e : List ℕ} (w : migratedOf up allowance s d ≡ (converted.Bytes n, e)) where
-    abbrev asked : ((p : Plan) × (fileVerdict up allowance s ≡ verdict.Goes p n)) × (n ≤ length d)
+    abbrev pub asked : ((p : Plan) × (fileVerdict up allowance s ≡ verdict.Goes p n)) × (n ≤ length d)
     asked = asked-bytes d w
 
-    abbrev plan : Plan
+    abbrev pub plan : Plan
     plan = asked .0 .0
 
     pub goes-by : Going plan n
     goes-by = going (asked .0 .1)
 
-    pub goer-is : Goer up h s
+    abbrev pub goer-is : Goer up h s
     goer-is = goer bytes goes-by
 
     pub left : e ≡ newFile up plan h s ++ drop n d

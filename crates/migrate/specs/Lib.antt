@@ -13,3 +13,6 @@ pub mod Again
 pub mod Answer
 pub mod Back
 pub mod Exact
+pub mod Found
+-- theorems
+pub mod Theorems

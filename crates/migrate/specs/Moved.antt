@@ -153,3 +153,12 @@ module _ (up : Bool) (h : Header) (s : List ℕ) (g : Goer up h s) where
       go : (b : Bool) → By b (148 + o .«number_of_point_records» * 2) (pointsEnd o) (pointsEnd n) → pointsEnd n + (length s - pointsEnd o) < 2 ^ 64
       go true p = omega (arith, p, few, parts .points-within)
       go false p = omega (arith, p, parts .points-within)
+
+  -- and the new file is longer, or shorter, by as many bytes
+  pub new-by : {m : ℕ} → m ≡ newLength up h s → By up (148 + o .«number_of_point_records» * 2) (length s) m
+  unfolding newLength
+  new-by {m} is = go up ends
+    where
+      go : (b : Bool) → By b (148 + o .«number_of_point_records» * 2) (pointsEnd o) (pointsEnd n) → By b (148 + o .«number_of_point_records» * 2) (length s) m
+      go true p = omega (arith, p, is, parts .points-within)
+      go false p = omega (arith, p, is, parts .points-within)
