@@ -1,15 +1,14 @@
 -- A header that went up goes down again, and is what it was.
-use Prim.Native.Nat.{ℕ, suc, _+_, _-_, _^_, _≤_, _<_}
+use Prim.Native.Nat.{ℕ, suc, _+_, _-_, _^_, _<_}
 use mathlib.Core.Path.{_≡_, refl, sym, ap, _∙_}
-use mathlib.Core.Bool.{Bool, true, false, cond, _&&_, _||_}
+use mathlib.Core.Bool.{true, false}
 use mathlib.Core.Logic.{_⊎_, inl, inr}
-use mathlib.Core.List.{List, [], _∷_, _++_}
+use mathlib.Core.List.{List, [], _∷_}
 use native.Mathlib.Omega.{arith}
-use borrow.Author.Tests.{lt-ltb, eq-eqb, ne-eqb}
-use lib.Dec.{eqb, ltb}
-use lib.ListN.{length, getD, take, drop, replicate}
+use borrow.Author.Tests.{lt-ltb, ne-eqb}
+use lib.ListN.{length, getD, drop, replicate}
 use lib.Seq.{take-at, drop-at}
-use Rattle.fields.specs.Table.{All, none, _&_}
+use Rattle.fields.specs.Table.{All, _&_}
 use Rattle.header.specs.declared.Header.{Header}
 use Rattle.header.specs.Kinds.{Fits}
 use Rattle.header.specs.Layout.{Field, kind, fields14}

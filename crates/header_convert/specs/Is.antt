@@ -1,7 +1,7 @@
 -- What it is to be of a version and of one of two formats.
 use Prim.Native.Nat.{ℕ}
 use mathlib.Core.Path.{_≡_, refl}
-use mathlib.Core.Bool.{Bool, true, false, _&&_, _||_, and-eq-true-iff, or-true}
+use mathlib.Core.Bool.{Bool, true, false, _||_, and-eq-true-iff, or-true}
 use mathlib.Core.Logic.{_⊎_, inl, inr}
 use borrow.Author.Tests.{eqb-true, eq-eqb}
 use lib.Dec.{eqb}

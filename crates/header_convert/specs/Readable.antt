@@ -1,22 +1,22 @@
 -- A header that bytes can hold, turned, is one that bytes can hold, with the same padding.
 use Prim.Native.Nat.{ℕ, zero, suc, _+_, _-_, _^_, _≤_, _<_}
-use mathlib.Core.Path.{_≡_, refl, sym, ap, subst, _∙_}
+use mathlib.Core.Path.{_≡_, refl, _∙_}
 use mathlib.Core.Bool.{Bool, true, false, cond}
 use mathlib.Core.List.{List, [], _∷_, _++_}
 use native.Mathlib.Omega.{arith}
-use borrow.Author.Tests.{ltb-true, ltb-false, le-ltb, lt-ltb, eqb-true}
+use borrow.Author.Tests.{ltb-true, ltb-false, le-ltb, lt-ltb}
 use lib.Dec.{eqb, ltb}
-use lib.ListN.{length, getD, take, drop, replicate, length-append}
+use lib.ListN.{length, getD, take, replicate, length-append}
 use lib.Seq.{length-take-le}
 use Rattle.fields.specs.Table.{All, none, _&_}
 use Rattle.header.specs.declared.Header.{Header}
 use Rattle.header.specs.Kinds.{Numbers, Fits}
-use Rattle.header.specs.Layout.{Field, kind, fields14, fieldsOf, size}
-use Rattle.header.specs.Header.{startOf, evlrOf, largeBack, pointsOf}
+use Rattle.header.specs.Layout.{Field, kind, fields14, size}
+use Rattle.header.specs.Header.{startOf, evlrOf, pointsOf}
 use Rattle.header.specs.Judged.{paddedTo}
 use Rattle.header_write.specs.Bytes.{valueOf}
 use Rattle.header_write.specs.Readable.{Readable}
-use Rattle.header_convert.specs.Turned.{isOf, newCode, oldCode, largeOf, oldByReturn, every, fits32, changedOf, newPlaces, oldPlaces, newHeader, oldHeader}
+use Rattle.header_convert.specs.Turned.{newCode, oldCode, largeOf, oldByReturn, fits32, changedOf, newPlaces, oldPlaces, newHeader, oldHeader}
 use Rattle.header_convert.specs.Lists.{each-passes}
 use Rattle.header_convert.specs.Goes.{GoesUp, GoesDown}
 use Rattle.header_convert.specs.Is.{version-is}

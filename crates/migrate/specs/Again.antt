@@ -1,32 +1,24 @@
 -- The new file is accepted, with as many records.
-use Prim.Native.Nat.{ℕ, _+_, _-_, _≤_, _<_}
-use mathlib.Core.Path.{_≡_, refl, sym, ap, subst, _∙_}
+use Prim.Native.Nat.{ℕ, _-_, _≤_}
+use mathlib.Core.Path.{_≡_, refl, sym, ap, _∙_}
 use mathlib.Core.Bool.{Bool, true, false, _||_}
 use mathlib.Core.List.{List}
-use native.Mathlib.Nat.{sub-self}
 use native.Mathlib.Omega.{arith}
-use lib.ListN.{length}
-use Rattle.format.specs.Fields.{recordBytes}
 use Rattle.header.specs.declared.Header.{Header}
 use Rattle.header.specs.declared.OptionU64.{OptionU64}
 use Rattle.header.specs.declared.OptionU64.the-variants as start
 use Rattle.header.specs.declared.OptionEvlr.{OptionEvlr}
 use Rattle.header.specs.declared.OptionEvlr.the-variants as pair
-use Rattle.header.specs.Layout.{VersionMinor, fieldsOf, size}
-use Rattle.header.specs.Header.{number}
-use Rattle.header.specs.Judged.{readOf, paddingOf}
+use Rattle.header.specs.Layout.{fieldsOf, size}
 use Rattle.outline.specs.declared.Outline.{Outline}
 use Rattle.outline.specs.Outline.{outlineOf, header-size-is, no-evlrs}
 use Rattle.rules.specs.declared.Checked.the-variants.{Accepted}
-use Rattle.rules.specs.Rules.{highestFormat, formatBytes}
-use Rattle.rules.specs.Laws.{filled-bytes}
-use Rattle.rules.specs.Records.{Run}
-use Rattle.extents.specs.Extents.{pointsEnd, vlrBytes, recordsOf}
+use Rattle.rules.specs.Rules.{highestFormat}
+use Rattle.extents.specs.Extents.{recordsOf}
 use Rattle.file.specs.Rules.{checkedOf}
-use Rattle.file.specs.Holds.{standardIn, PartsHold, Holds, judged-holds}
+use Rattle.file.specs.Holds.{PartsHold, Holds, judged-holds}
 use Rattle.file.specs.Theorems.{accepted}
 use Rattle.pairs.specs.declared.Plan.{Plan}
-use Rattle.pairs.specs.Pairs.{formatWith}
 use Rattle.judge.specs.declared.Verdict.the-variants as verdict
 use Rattle.header_convert.specs.declared.Goes.the-variants.{Yes}
 use Rattle.header_convert.specs.Turned.{isStart, isPair, beside}

@@ -1,20 +1,17 @@
 -- A file that went up, and comes down again.
 use Prim.Native.Nat.{ℕ, _+_, _*_, _-_, _≤_}
-use mathlib.Core.Path.{_≡_, refl, sym, ap, subst, _∙_}
+use mathlib.Core.Path.{_≡_, sym, ap, subst, _∙_}
 use mathlib.Core.Bool.{Bool, true, false}
 use mathlib.Core.List.{List, [], _++_, append-assoc, append-nil}
 use native.Mathlib.Omega.{arith}
-use lib.ListN.{length, take, drop, replicate, length-append, length-drop, length-replicate, drop-of-length-le, take-append-drop}
+use lib.ListN.{length, take, drop, replicate, length-drop, length-replicate, drop-of-length-le, take-append-drop}
 use lib.Seq.{take-add, length-take-le, drop-drop}
 use Rattle.le.specs.Le as le
 use Rattle.le.specs.Laws.{bytes-take, bytes-drop}
-use Rattle.format.specs.Format.{withExtra}
-use Rattle.format.specs.Codes.{coded}
 use Rattle.format.specs.Fields.{recordBytes}
-use Rattle.format.specs.Laws.{record-sum}
 use Rattle.header.specs.declared.Header.{Header}
 use Rattle.header.specs.declared.HeaderAnswer.the-variants.{Whole}
-use Rattle.header.specs.Layout.{VersionMinor, HeaderSize}
+use Rattle.header.specs.Layout.{HeaderSize}
 use Rattle.header.specs.Header.{number}
 use Rattle.header.specs.Judged.{judged, readOf, paddingOf}
 use Rattle.header.specs.Answers.{size-read, padded-field}
@@ -23,11 +20,8 @@ use Rattle.header_write.specs.Bytes.{block}
 use Rattle.header_write.specs.Theorems as write
 use Rattle.outline.specs.declared.Outline.{Outline}
 use Rattle.outline.specs.Outline.{outlineOf, header-size-is}
-use Rattle.extents.specs.Extents.{pointsEnd, vlrBytes, recordsOf}
-use Rattle.rules.specs.declared.Checked.the-variants.{Accepted}
-use Rattle.file.specs.Rules.{checkedOf}
-use Rattle.file.specs.Holds.{standardIn, Holds, holds-judged}
-use Rattle.file.specs.Points.{pointFormat, format-long, format-is}
+use Rattle.extents.specs.Extents.{pointsEnd, vlrBytes}
+use Rattle.file.specs.Holds.{standardIn, holds-judged}
 use Rattle.file.specs.Theorems.{accepted}
 use Rattle.pairs.specs.declared.Plan.{Plan}
 use Rattle.pairs.specs.Pairs.{formatWith}
@@ -35,8 +29,8 @@ use Rattle.judge.specs.declared.Verdict.{Verdict}
 use Rattle.judge.specs.declared.Verdict.the-variants as verdict
 use Rattle.convert.specs.declared.Converted.{Converted}
 use Rattle.convert.specs.declared.Converted.the-variants as converted
-use Rattle.convert.specs.Run.{imagesOf, toOldOf, toNewOf}
-use Rattle.convert.specs.Demand.{askOf, convertOf, Up, from-1, from-3, runLength, No28, AllWithin90, laid}
+use Rattle.convert.specs.Run.{imagesOf, toNewOf}
+use Rattle.convert.specs.Demand.{askOf, Up, from-1, from-3, runLength, No28, AllWithin90, laid}
 use Rattle.convert.specs.Agree as run
 use Rattle.convert.specs.Theorems.{up-and-down-run, down-again-run}
 use Rattle.header_convert.specs.declared.Goes.the-variants.{Yes}
@@ -44,16 +38,16 @@ use Rattle.header_convert.specs.Turned.{newHeader, oldHeader, oldGoes}
 use Rattle.header_convert.specs.Is.{version-is}
 use Rattle.header_convert.specs.Goes.{GoesUp, goes-up, down-goes}
 use Rattle.header_convert.specs.Back.{goes-back, header-back}
-use Rattle.migrate.specs.Migrate.{goesOf, otherOf, pointBytes, extraIn, runVerdict, frontOf, newFile, newLength, placed, fileVerdict}
+use Rattle.migrate.specs.Migrate.{pointBytes, extraIn, runVerdict, frontOf, newFile, newLength, placed, fileVerdict}
 use Rattle.migrate.specs.Steps.{Goer}
 use Rattle.migrate.specs.Way.{Way, up-1, up-3, extra-is}
 use Rattle.migrate.specs.Moved.{moved, parts, source-length, target-length, holds-length}
 use Rattle.migrate.specs.Told.{by-accepted, by-points}
 use Rattle.migrate.specs.Front.{own-readable}
 use Rattle.migrate.specs.Done.{images-long}
-use Rattle.migrate.specs.New.{header-new, padding-new, vlrs-new, points-new, rest-new, new-long}
+use Rattle.migrate.specs.New.{header-new, padding-new, vlrs-new, points-new, rest-new}
 use Rattle.migrate.specs.Again.{holds-new, accepted-new}
-use Rattle.migrate.specs.Answer.{Going, then-goes, goer}
+use Rattle.migrate.specs.Answer.{Going, goer}
 
 way-up : {a b : ℕ} → Way true a b → Up a b
 way-up up-1 = from-1

@@ -1,8 +1,8 @@
 -- Why a file is refused: document 02's refusals in their order, and that there are no others.
-use Prim.Native.Nat.{ℕ, _+_, _*_, _-_, _^_, _≤_, _<_}
+use Prim.Native.Nat.{ℕ, _+_, _-_, _^_, _<_}
 use mathlib.Core.Path.{_≡_, refl, sym, ap, subst, _∙_}
 use mathlib.Core.Bool.{Bool, true, false, cond}
-use mathlib.Core.Logic.{_⊎_, inl, inr, ⊎-elim}
+use mathlib.Core.Logic.{_⊎_}
 use mathlib.Core.List.{List}
 use native.Mathlib.Omega.{arith}
 use borrow.Author.Tests.{lt-ltb, le-leb, ltb-false, leb-false}
@@ -11,7 +11,6 @@ use lib.ListN.{length}
 use Rattle.le.specs.Le as le
 use Rattle.refusal.specs.declared.Refusal.{Refusal}
 use Rattle.refusal.specs.declared.Refusal.the-variants.{HeaderSize, RecordLength, PointOffset, NoRoom, OtherVersionOrFormat, EvlrsOrWaveforms, CountsTooLargeForOld}
-use Rattle.format.specs.Fields.{recordBytes}
 use Rattle.format.specs.Length.{len-told, len-refused}
 use Rattle.header.specs.declared.Header.{Header}
 use Rattle.header.specs.Judged.{readOf}
@@ -35,9 +34,9 @@ use Rattle.header_convert.specs.Turned.{isOf, beside, countsFit, newCode, newGo
 use Rattle.header_convert.specs.Is as is-of
 use Rattle.header_convert.specs.Goes.{goes-up, goes-down}
 use Rattle.migrate.specs.Migrate.{goesOf, pointBytes, extraIn, runVerdict, newLength, placed, goesVerdict, headerVerdict, checkedVerdict, fileVerdict, migratedOf}
-use Rattle.migrate.specs.Way.{Way, two-bytes, asked}
+use Rattle.migrate.specs.Way.{two-bytes, asked}
 use Rattle.migrate.specs.Moved.{up-way, holds-length}
-use Rattle.migrate.specs.Answer.{Going, going, same-refusal, without-room}
+use Rattle.migrate.specs.Answer.{going, same-refusal, without-room}
 use Rattle.migrate.specs.Told.{by-accepted, by-check}
 
 -- "an accepted 1.2 file of format 1 or 3", or "such a 1.4 file"

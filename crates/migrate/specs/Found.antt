@@ -1,12 +1,11 @@
 -- What stands in the new file: the fields that are kept, the counts, and the points.
 use Prim.Native.Nat.{ℕ, _+_, _*_, _-_, _≤_, _<_}
-use mathlib.Core.Path.{_≡_, refl, sym, ap, subst, _∙_}
-use mathlib.Core.Bool.{Bool, true, false, cond}
+use mathlib.Core.Path.{_≡_, refl, sym, ap, _∙_}
+use mathlib.Core.Bool.{Bool, true, false}
 use mathlib.Core.List.{List, [], _++_, append-nil}
 use native.Mathlib.Omega.{arith}
 use borrow.Author.Tests.{eq-eqb, ne-eqb}
 use lib.ListN.{length, take, drop, replicate, drop-of-length-le}
-use Rattle.le.specs.Le as le
 use Rattle.le.specs.Laws.{bytes-take, bytes-drop}
 use Rattle.header.specs.declared.Header.{Header}
 use Rattle.header.specs.Header.{pointsOf}

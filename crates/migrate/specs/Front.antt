@@ -1,6 +1,6 @@
 -- The header of the new file can be written and read, and has the place that its fields say.
 use Prim.Native.Nat.{ℕ, _+_, _-_, _≤_}
-use mathlib.Core.Path.{_≡_, refl, sym, ap, subst, _∙_}
+use mathlib.Core.Path.{_≡_, sym, ap, subst, _∙_}
 use mathlib.Core.Bool.{Bool, true, false}
 use mathlib.Core.List.{List}
 use native.Mathlib.Omega.{arith}
@@ -8,24 +8,22 @@ use lib.ListN.{length}
 use Rattle.header.specs.declared.Header.{Header}
 use Rattle.header.specs.Layout.{VersionMinor, fieldsOf, size}
 use Rattle.header.specs.Header.{number}
-use Rattle.header.specs.Judged.{readOf, paddingOf}
+use Rattle.header.specs.Judged.{paddingOf}
 use Rattle.header.specs.Minor.{minor-read}
 use Rattle.header.specs.Answers.{padded-field}
 use Rattle.header_write.specs.Readable.{Readable}
 use Rattle.header_write.specs.Theorems.{readable}
-use Rattle.outline.specs.declared.Outline.{Outline}
 use Rattle.outline.specs.Outline.{outlineOf, header-size-is, offset-is}
 use Rattle.file.specs.Holds.{standardIn, holds-judged}
 use Rattle.header_convert.specs.declared.Goes.the-variants.{Yes}
-use Rattle.header_convert.specs.Turned.{newHeader, oldHeader}
 use Rattle.header_convert.specs.Is.{version-is}
 use Rattle.header_convert.specs.Goes.{goes-up, goes-down}
 use Rattle.header_convert.specs.Readable.{new-readable, old-readable}
 use Rattle.header_convert.specs.Told.{new-version, old-version}
 use Rattle.migrate.specs.Migrate.{goesOf, otherOf}
-use Rattle.migrate.specs.Steps.{Ready, Goer, Fronted}
+use Rattle.migrate.specs.Steps.{Goer, Fronted}
 use Rattle.migrate.specs.Way.{By}
-use Rattle.migrate.specs.Moved.{Moved, moved, parts}
+use Rattle.migrate.specs.Moved.{moved, parts}
 
 module _ (up : Bool) (h : Header) (s : List ℕ) (g : Goer up h s) where
   abbrev new : Header

@@ -6,7 +6,7 @@ use mathlib.Core.Logic.{_⊎_, inl, inr}
 use mathlib.Core.List.{List}
 use native.Mathlib.Nat.{mul-add, mul-le-mul-left}
 use native.Mathlib.Omega.{arith}
-use borrow.Author.Tests.{eqb-true, eq-eqb}
+use borrow.Author.Tests.{eqb-true}
 use lib.Dec.{eqb}
 use lib.ListN.{length}
 use Rattle.format.specs.Fields.{recordBytes}
@@ -17,7 +17,7 @@ use Rattle.header.specs.declared.Header.{Header}
 use Rattle.header.specs.Layout.{VersionMinor}
 use Rattle.header.specs.Header.{number, pointsOf}
 use Rattle.header.specs.Judged.{readOf}
-use Rattle.header.specs.Minor.{minor-read, no-large, points-legacy}
+use Rattle.header.specs.Minor.{no-large, points-legacy}
 use Rattle.outline.specs.declared.Outline.{Outline}
 use Rattle.outline.specs.Outline.{outlineOf}
 use Rattle.rules.specs.Laws.{format-bytes}
@@ -26,11 +26,11 @@ use Rattle.file.specs.Holds.{PartsHold, standardIn, Holds, holds-judged}
 use Rattle.file.specs.Points.{pointFormat, format-is, format-long}
 use Rattle.pairs.specs.Pairs.{formatWith}
 use Rattle.header_convert.specs.declared.Goes.the-variants.{Yes}
-use Rattle.header_convert.specs.Turned.{isOf, newCode, oldCode, changedOf, newPlaces, oldPlaces, newHeader, oldHeader}
+use Rattle.header_convert.specs.Turned.{newCode, oldCode, changedOf, newPlaces, oldPlaces, newHeader, oldHeader}
 use Rattle.header_convert.specs.Is as is
 use Rattle.header_convert.specs.Goes.{GoesUp, GoesDown, goes-up, goes-down}
 use Rattle.migrate.specs.Migrate.{goesOf, otherOf, extraIn, newLength}
-use Rattle.migrate.specs.Steps.{Ready, Goer}
+use Rattle.migrate.specs.Steps.{Goer}
 use Rattle.migrate.specs.Way.{Way, up-1, up-3, down-6, down-7, By, two-bytes}
 
 -- "The header grows or shrinks by 148 bytes, the point offset with it", a record by two; the VLRs and the points are as many, and nothing

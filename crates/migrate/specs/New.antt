@@ -1,8 +1,8 @@
 -- The new file, read: its header is the other one, its padding, its VLRs and what follows its points are the old file's, and its points are
 -- the images of the old ones.
-use Prim.Native.Nat.{ℕ, _+_, _*_, _-_, _≤_}
-use mathlib.Core.Path.{_≡_, refl, sym, ap, subst, _∙_}
-use mathlib.Core.Bool.{Bool, true, false}
+use Prim.Native.Nat.{ℕ, _+_, _*_, _-_}
+use mathlib.Core.Path.{_≡_, refl, sym, ap, _∙_}
+use mathlib.Core.Bool.{Bool}
 use mathlib.Core.List.{List, _++_, append-assoc}
 use native.Mathlib.Omega.{arith}
 use lib.ListN.{length, take, drop, replicate, length-append, length-drop, length-replicate}
@@ -25,8 +25,7 @@ use Rattle.judge.specs.declared.Verdict.the-variants as verdict
 use Rattle.convert.specs.Run.{imagesOf}
 use Rattle.migrate.specs.Migrate.{otherOf, pointBytes, runVerdict, frontOf, newFile, newLength}
 use Rattle.migrate.specs.Steps.{Goer, Fronted}
-use Rattle.migrate.specs.Way.{By}
-use Rattle.migrate.specs.Moved.{moved, parts}
+use Rattle.migrate.specs.Moved.{moved}
 use Rattle.migrate.specs.Laws.{front-long}
 use Rattle.migrate.specs.Front.{other-readable, fronted}
 use Rattle.migrate.specs.Done.{needed, images-long}

@@ -1,6 +1,6 @@
 -- What the definitions say, by each answer that is met on the way.
 use Prim.Native.Nat.{ℕ, _+_, _*_, _-_, _≤_, _<_}
-use mathlib.Core.Path.{_≡_, refl, sym, ap, _∙_}
+use mathlib.Core.Path.{_≡_, refl, sym, ap}
 use mathlib.Core.Bool.{Bool}
 use mathlib.Core.List.{List, _++_}
 use native.Mathlib.Omega.{arith}
@@ -21,7 +21,6 @@ use Rattle.file.specs.Rules.{checkedOf}
 use Rattle.pairs.specs.declared.Plan.{Plan}
 use Rattle.judge.specs.declared.Verdict.{Verdict}
 use Rattle.judge.specs.declared.Verdict.the-variants as verdict
-use Rattle.convert.specs.declared.Converted.{Converted}
 use Rattle.convert.specs.declared.Converted.the-variants as converted
 use Rattle.header_convert.specs.declared.Goes.{Goes}
 use Rattle.header_convert.specs.declared.Goes.the-variants as goes

@@ -1,10 +1,9 @@
 -- The ways of the points: from one format to the other, in records that are two bytes longer or shorter, by the plan of the two.
 use Prim.Native.Nat.{ℕ, _+_, _*_, _-_, _≤_}
-use mathlib.Core.Path.{_≡_, refl, sym, ap, subst, _∙_}
+use mathlib.Core.Path.{_≡_, refl, sym, _∙_}
 use mathlib.Core.Bool.{Bool, true, false}
 use mathlib.Core.List.{List}
 use native.Mathlib.Omega.{arith}
-use Rattle.refusal.specs.declared.Refusal.{Refusal}
 use Rattle.format.specs.declared.Format.{Format}
 use Rattle.format.specs.declared.FormatLen.{FormatLen}
 use Rattle.format.specs.Format.{withExtra}
@@ -19,7 +18,6 @@ use Rattle.pairs.specs.declared.Plan.{Plan}
 use Rattle.pairs.specs.Pairs.{formatWith, oldPair, newPair, lengthsOf}
 use Rattle.judge.specs.declared.Judged.{Judged}
 use Rattle.judge.specs.declared.Judged.the-variants as judged
-use Rattle.judge.specs.declared.Verdict.{Verdict}
 use Rattle.judge.specs.declared.Verdict.the-variants as verdict
 use Rattle.judge.specs.Judge.{judgedOf, verdictOn, verdictBy, oldVerdict, newVerdict}
 use Rattle.convert.specs.Demand.{askOf}

@@ -1,4 +1,4 @@
-use mathlib.Core.Path.{_≡_, refl}
+use mathlib.Core.Path.{refl}
 use Rattle.header_convert.specs.Turned.{changedOf}
 use Rattle.header_convert.proofs.changed.Statement.{statement}
 use Rattle.header_convert.proofs.changed.Tie as tie

@@ -1,9 +1,5 @@
 use borrow.Author.Needs.{needs}
-use mathlib.Core.Path.{_≡_, ap, sym}
-use mathlib.Core.Bool.{Bool, true, false, _||_}
-use Rattle.header.specs.declared.OptionU64.{OptionU64}
-use Rattle.header.specs.declared.OptionEvlr.{OptionEvlr}
-use Rattle.header_convert.specs.Turned.{isStart, isPair, beside}
+use Rattle.header_convert.specs.Turned.{beside}
 use Rattle.header_convert.proofs.is_beside.Statement.{statement}
 use Rattle.header_convert.proofs.is_beside.Tie as tie
 

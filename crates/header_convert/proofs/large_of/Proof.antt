@@ -1,4 +1,3 @@
-use mathlib.Core.Path.{_≡_, refl}
 use Rattle.header_convert.proofs.large_of.Statement.{statement}
 use Rattle.header_convert.proofs.large_of.Tie as tie
 

@@ -1,10 +1,8 @@
-use mathlib.Core.Path.{_≡_, ap, _∙_}
+use mathlib.Core.Path.{_∙_}
 use mathlib.Core.Bool.{true}
-use mathlib.Core.List.{List}
-use Prim.Native.Nat.{ℕ, _+_}
+use Prim.Native.Nat.{_+_}
 use borrow.Author.Needs.{needs}
 use lib.ListN.{replicate}
-use Rattle.header.specs.declared.Header.{Header}
 use Rattle.header_convert.specs.Turned.{changedOf, newPlaces, newHeader}
 use Rattle.header_convert.proofs.new_header.Statement.{statement}
 use Rattle.header_convert.proofs.new_header.Tie as tie

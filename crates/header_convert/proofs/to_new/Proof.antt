@@ -2,7 +2,6 @@ use mathlib.Core.Path.{_≡_, ap, sym, _∙_}
 use borrow.Author.Needs.{needs}
 use Rattle.header_convert.specs.declared.Goes.{Goes}
 use Rattle.header_convert.specs.declared.Goes.the-variants.{Yes}
-use Rattle.header.specs.declared.Header.{Header}
 use Rattle.header_convert.specs.Turned.{newHeader, newGoes, turnedBy, newTurned}
 use Rattle.header_convert.specs.Goes.{goes-up}
 use Rattle.header_convert.proofs.to_new.Statement.{statement}

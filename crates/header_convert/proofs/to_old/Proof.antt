@@ -2,7 +2,6 @@ use mathlib.Core.Path.{_≡_, ap, sym, _∙_}
 use borrow.Author.Needs.{needs}
 use Rattle.header_convert.specs.declared.Goes.{Goes}
 use Rattle.header_convert.specs.declared.Goes.the-variants.{Yes}
-use Rattle.header.specs.declared.Header.{Header}
 use Rattle.header_convert.specs.Turned.{oldHeader, oldGoes, turnedBy, oldTurned}
 use Rattle.header_convert.specs.Goes.{goes-down}
 use Rattle.header_convert.proofs.to_old.Statement.{statement}

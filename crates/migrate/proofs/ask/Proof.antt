@@ -1,4 +1,4 @@
-use mathlib.Core.Path.{_≡_, ap, sym, subst, refl, _∙_}
+use mathlib.Core.Path.{ap, sym, subst, refl, _∙_}
 use native.Mathlib.Omega.{arith}
 use borrow.Author.Needs.{needs}
 use Rattle.header.specs.declared.HeaderRead.{HeaderRead}

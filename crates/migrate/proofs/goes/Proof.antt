@@ -1,5 +1,5 @@
-use mathlib.Core.Path.{_≡_, ap, sym, _∙_}
-use mathlib.Core.Bool.{Bool, true, false}
+use mathlib.Core.Path.{ap, sym, _∙_}
+use mathlib.Core.Bool.{Bool}
 use borrow.Author.Needs.{needs}
 use Rattle.migrate.specs.Migrate.{goesOf}
 use Rattle.migrate.proofs.goes.Statement.{statement}

@@ -1,8 +1,6 @@
 use mathlib.Core.Path.{_≡_, ap, sym, subst, _∙_}
-use mathlib.Core.Bool.{Bool, true, false}
+use mathlib.Core.Bool.{Bool}
 use borrow.Author.Needs.{needs}
-use Rattle.header.specs.declared.Header.{Header}
-use Rattle.header_convert.specs.declared.Goes.{Goes}
 use Rattle.header_convert.specs.declared.Goes.the-variants.{Yes}
 use Rattle.header_convert.specs.Told.{new-turned, old-turned}
 use Rattle.migrate.specs.Migrate.{goesOf, otherOf}

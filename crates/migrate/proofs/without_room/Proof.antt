@@ -1,4 +1,4 @@
-use mathlib.Core.Path.{_≡_, ap, sym}
+use mathlib.Core.Path.{ap, sym}
 use borrow.Author.Needs.{needs}
 use Rattle.migrate.specs.Steps.{roomless}
 use Rattle.migrate.proofs.without_room.Statement.{statement}

@@ -1,6 +1,4 @@
-use Prim.Native.Nat.{ℕ}
-use mathlib.Core.List.{List}
-use mathlib.Core.Path.{_≡_, ap, sym, subst, refl, _∙_}
+use mathlib.Core.Path.{ap, sym, subst, refl, _∙_}
 use native.Mathlib.Omega.{arith}
 use borrow.Author.Needs.{needs}
 use Rattle.header.specs.declared.HeaderRead.{HeaderRead}

@@ -1,9 +1,4 @@
-use Prim.Native.Nat.{_+_, _≤_}
-use mathlib.Core.Path.{_≡_}
-use native.Mathlib.Omega.{arith}
 use borrow.Author.Needs.{needs}
-use lib.ListN.{length}
-use Rattle.header.specs.Judged.{paddingOf}
 use Rattle.migrate.specs.Laws.{front-written}
 use Rattle.migrate.proofs.write_front.Statement.{statement}
 use Rattle.migrate.proofs.write_front.Tie as tie

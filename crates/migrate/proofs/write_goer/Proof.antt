@@ -1,5 +1,5 @@
 -- The outlines are those of the two headers; by them the place that is lent is that of the new file's points, and the rest lies around it.
-use Prim.Native.Nat.{ℕ, _+_, _-_, _^_, _≤_, _<_}
+use Prim.Native.Nat.{ℕ, _+_, _-_, _≤_}
 use mathlib.Core.Path.{_≡_, ap, sym, subst, _∙_}
 use mathlib.Core.List.{List, _++_}
 use native.Mathlib.Omega.{arith}
@@ -9,12 +9,11 @@ use Rattle.header.specs.declared.Header.{Header}
 use Rattle.outline.specs.declared.Outline.{Outline}
 use Rattle.outline.specs.Outline.{outlineOf, offset-is}
 use Rattle.extents.specs.Extents.{pointsEnd}
-use Rattle.judge.specs.declared.Verdict.{Verdict}
 use Rattle.convert.specs.declared.Converted.{Converted}
-use Rattle.convert.specs.declared.Converted.the-variants.{Bytes, Refused}
+use Rattle.convert.specs.declared.Converted.the-variants.{Bytes}
 use Rattle.convert.specs.Demand.{convertOf}
-use Rattle.migrate.specs.Migrate.{otherOf, pointBytes, extraIn, runVerdict, newLength, placed, headerVerdict, doneBy}
-use Rattle.migrate.specs.Steps.{Goer, Inside, Around, aroundOf, around-at, roomless}
+use Rattle.migrate.specs.Migrate.{otherOf, pointBytes, extraIn, runVerdict, newLength, doneBy}
+use Rattle.migrate.specs.Steps.{Inside, Around, aroundOf, around-at, roomless}
 use Rattle.migrate.specs.Moved.{parts, length-fits}
 use Rattle.migrate.specs.Told.{by-points, roomless-done}
 use Rattle.migrate.specs.Front.{fronted}
