@@ -212,8 +212,9 @@ fn write_around(file: &[u8], new: Header, o: Outline, to: usize, dst: &mut [u8])
     requires { ⌜ Around new o to (now file) (now dst) ⌝ }
     ensures { λ _. ⌜ now (dst .exit) ≡ aroundOf new o to (now (file .entry)) (now (dst .entry)) ⌝ }
 {
+    let end = end_of(o);
     write_front(file, new, o, dst);
-    lent::put(&mut dst[to..], &file[end_of(o)..]);
+    lent::put(&mut dst[to..], &file[end..]);
 }
 
 // The header with its padding, and then all that lies between it and the points, the VLRs among them.

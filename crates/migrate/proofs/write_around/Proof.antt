@@ -12,12 +12,12 @@ use Rattle.migrate.proofs.write_around.Tie as tie
 
 returns : tie.Need-returns
 returns c =
-    let w = c .before .before .before .before .before .before .before .before in
+    let w = c .before .before .before .before .before .before .before in
     let s = c .before .before .before .before .before .before .before .before .before .before .before .before in
     let a = s .args in
     let rest = drop (pointsEnd (a .o)) (a .file .now) in
     let d′ = w .write-front .last .1 .1 .1 .0 in
-    let put = c .before .before .put .ensures ∙ ap (λ (l : List ℕ). lent.frontOf l (take (length d′ - a .to) (drop (a .to) d′))) (to-the-end (a .file .now) (pointsEnd (a .o)) _ (c .before .before .before .before .end-of .ensures)) in
+    let put = c .before .before .put .ensures ∙ ap (λ (l : List ℕ). lent.frontOf l (take (length d′ - a .to) (drop (a .to) d′))) (to-the-end (a .file .now) (pointsEnd (a .o)) _ (w .before .before .end-of .ensures)) in
     around-laid (a .dst .now) (frontOf (a .new) (a .o) (a .file .now)) rest d′ _ _ (a .to) _
     (front-long (a .new) (a .o) (a .file .now) (a .dst .now) (s .pre .front)) (s .pre .points) (rw length-drop (s .pre .rest)) (w .write-front .ensures) put
 
@@ -25,5 +25,5 @@ pub write-around-spec : {M : Type 1} → statement M
 write-around-spec =
     tie.close
     (tie.spec
-    (λ c κs. search needs) (λ c. search needs) (λ c. search needs) (λ c. search needs) (λ c κs. search needs) (λ c. search needs) (λ c. search needs)
+    (λ c κs. search needs) (λ c κs. search needs) (λ c. search needs) (λ c. search needs) (λ c. search needs) (λ c. search needs) (λ c. search needs)
     (λ c. search needs) (λ c κs. search needs) (λ c. search needs) returns)
