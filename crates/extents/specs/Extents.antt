@@ -1,5 +1,6 @@
 -- Where the parts of a file end: document 01, rules 6 to 8, and with those of the header 2 to 8. All sums are exact.
 use Prim.Native.Nat.{ℕ, _+_, _*_, _-_}
+use mathlib.Core.Path.{_≡_, refl}
 use mathlib.Core.Bool.{true, false, cond}
 use mathlib.Core.List.{List, [], _∷_, _++_}
 use lib.Dec.{eqb, leb}
@@ -44,3 +45,7 @@ outlineRules n minor allowance o s = headerRules n minor o (length s) ++ partRul
 -- all records, VLRs and EVLRs
 unfoldable pub recordsOf : Outline → ℕ
 recordsOf o = o .«number_of_variable_length_records» + o .«number_of_evlrs»
+
+pub records-are : (o : Outline) → recordsOf o ≡ o .«number_of_variable_length_records» + o .«number_of_evlrs»
+unfolding recordsOf
+records-are o = refl

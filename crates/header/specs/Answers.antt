@@ -4,7 +4,7 @@ use mathlib.Core.Path.{_≡_, refl, sym, ap, subst, _∙_}
 use mathlib.Core.Bool.{Bool, true, false, cond, _&&_}
 use mathlib.Core.List.{List}
 use native.Mathlib.Omega.{arith}
-use borrow.Author.Tests.{lt-ltb, eq-eqb, ltb-false}
+use borrow.Author.Tests.{lt-ltb, le-ltb, eq-eqb, ltb-true, ltb-false}
 use lib.Dec.{eqb, ltb}
 use lib.ListN.{length, take, drop}
 use lib.Seq.{length-take-le}
@@ -106,6 +106,23 @@ padded-most n field = go (ltb n field) refl
     go : (b : Bool) → ltb n field ≡ b → field ≤ cond b field n
     go true e = omega arith
     go false e = omega (arith, ltb-false n field e)
+
+-- and padding that follows a header follows it when both move
+pub padded-grown : (n field pad k : ℕ) → paddedTo n field ≡ n + pad → paddedTo (n + k) (field + k) ≡ n + k + pad
+unfolding paddedTo
+padded-grown n field pad k = go (ltb n field) refl
+  where
+    go : (b : Bool) → ltb n field ≡ b → cond b field n ≡ n + pad → cond (ltb (n + k) (field + k)) (field + k) (n + k) ≡ n + k + pad
+    go true e h = rw (lt-ltb (n + k) (field + k) (omega (arith, ltb-true n field e))) (omega arith)
+    go false e h = rw (le-ltb (n + k) (field + k) (omega (arith, ltb-false n field e))) (omega arith)
+
+pub padded-shrunk : (n field pad k : ℕ) → k ≤ field → paddedTo (n + k) field ≡ n + k + pad → paddedTo n (field - k) ≡ n + pad
+unfolding paddedTo
+padded-shrunk n field pad k l = go (ltb (n + k) field) refl
+  where
+    go : (b : Bool) → ltb (n + k) field ≡ b → cond b field (n + k) ≡ n + k + pad → cond (ltb n (field - k)) (field - k) n ≡ n + pad
+    go true e h = rw (lt-ltb n (field - k) (omega (arith, ltb-true (n + k) field e))) (omega arith)
+    go false e h = rw (le-ltb n (field - k) (omega (arith, ltb-false (n + k) field e))) (omega arith)
 
 -- a header is refused with 1, 2 or 3, and in no other way
 module _ (P : Refusal → Type 0) (short : (n : ℕ) → P (Short n)) (signature : (n : ℕ) → P (Signature n)) (version : (n : ℕ) → P (VersionRefusal n)) where

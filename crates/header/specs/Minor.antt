@@ -4,17 +4,18 @@ use mathlib.Core.Path.{_≡_, refl, sym, ap, _∙_}
 use mathlib.Core.Bool.{Bool, true, false}
 use mathlib.Core.List.{List}
 use native.Mathlib.Omega.{arith}
-use borrow.Author.Tests.{eqb-true, ne-eqb}
+use borrow.Author.Tests.{eqb-true, eq-eqb, ne-eqb}
 use lib.Dec.{eqb}
 use lib.ListN.{length, take}
 use Rattle.le.specs.Laws.{num-past}
 use Rattle.header.specs.declared.Header.{Header}
 use Rattle.header.specs.declared.HeaderRead.{HeaderRead}
+use Rattle.header.specs.declared.OptionU64.the-variants as start
 use Rattle.header.specs.declared.OptionEvlr.the-variants as pair
 use Rattle.header.specs.declared.Version.{Version}
 use Rattle.header.specs.declared.HeaderAnswer.the-variants.{Whole}
 use Rattle.header.specs.Layout.{VersionMinor, LegacyNumberOfPointRecords}
-use Rattle.header.specs.Header.{number, evlrOf, headerOf, pointsOf}
+use Rattle.header.specs.Header.{number, startOf, evlrOf, headerOf, pointsOf}
 use Rattle.header.specs.Judged.{versionOf, judged, readOf}
 use Rattle.header.specs.Laws.{within, short-13}
 use Rattle.header.specs.Answers.{read-whole, number-block, block-of, version-read}
@@ -54,3 +55,17 @@ points-legacy h none = go (eqb (h .«number_of_point_records») 0) refl
     go : (b : Bool) → eqb (h .«number_of_point_records») 0 ≡ b → pointsOf h ≡ h .«number_of_point_records»
     go true e = rw (e, none) (sym (eqb-true _ _ e))
     go false e = rw e
+
+-- and where it is zero and there are large counts it is the large one
+pub points-large : (h : Header) → h .«number_of_point_records» ≡ 0 → h .«has_large_file» ≡ true → pointsOf h ≡ h .«large_file» .«number_of_point_records»
+unfolding pointsOf
+points-large h zero large = rw (eq-eqb _ 0 zero, large)
+
+-- zeros read as missing
+pub no-start : startOf 0 ≡ start.None
+unfolding startOf
+no-start = refl
+
+pub no-pair : (n : ℕ) → evlrOf 0 n ≡ pair.None
+unfolding evlrOf
+no-pair n = refl

@@ -19,7 +19,7 @@ use Rattle.header_convert.specs.Turned.{beside, newCode, oldCode, largeO
 use Rattle.header_convert.specs.Is.{version-is, format-is, is-of}
 use Rattle.header_convert.specs.Steps.{OldFits}
 use Rattle.header_convert.specs.Goes.{GoesUp, GoesDown, hold-counts}
-use Rattle.header_convert.specs.Told.{new-version}
+use Rattle.header_convert.specs.Told.{new-version, new-placed}
 
 -- the codes
 code-back : (f : ℕ) → (f ≡ 1) ⊎ (f ≡ 3) → oldCode (newCode f) ≡ f
@@ -57,8 +57,7 @@ module _ (h : Header) (padding : List ℕ) (r : Readable h padding) (g : GoesUp 
   by-return-back = take-at (h .«number_of_points_by_return») (replicate 10 0) 5 (counts .five)
 
   count-back : pointsOf (newHeader h) ≡ h .«number_of_point_records»
-  unfolding pointsOf newHeader newPlaces changedOf
-  count-back = refl
+  count-back = new-placed h .count
 
   alone-new : beside (newHeader h) ≡ false
   unfolding beside newHeader newPlaces changedOf

@@ -4,7 +4,7 @@ use mathlib.Core.Path.{_≡_, refl, _∙_}
 use mathlib.Core.Bool.{Bool, true, false, cond}
 use mathlib.Core.List.{List, [], _∷_, _++_}
 use native.Mathlib.Omega.{arith}
-use borrow.Author.Tests.{ltb-true, ltb-false, le-ltb, lt-ltb}
+use borrow.Author.Tests.{ltb-true, ltb-false}
 use lib.Dec.{eqb, ltb}
 use lib.ListN.{length, getD, take, replicate, length-append}
 use lib.Seq.{length-take-le}
@@ -12,8 +12,9 @@ use Rattle.fields.specs.Table.{All, none, _&_}
 use Rattle.header.specs.declared.Header.{Header}
 use Rattle.header.specs.Kinds.{Numbers, Fits}
 use Rattle.header.specs.Layout.{Field, kind, fields14, size}
-use Rattle.header.specs.Header.{startOf, evlrOf, pointsOf}
-use Rattle.header.specs.Judged.{paddedTo}
+use Rattle.header.specs.Header.{pointsOf}
+use Rattle.header.specs.Answers.{padded-grown, padded-shrunk}
+use Rattle.header.specs.Minor.{no-start, no-pair}
 use Rattle.header_write.specs.Bytes.{valueOf}
 use Rattle.header_write.specs.Readable.{Readable}
 use Rattle.header_convert.specs.Turned.{newCode, oldCode, largeOf, oldByReturn, fits32, changedOf, newPlaces, oldPlaces, newHeader, oldHeader}
@@ -54,23 +55,6 @@ old-code-small f = go (eqb f 6)
     go true = omega arith
     go false = omega arith
 
--- padding that follows a header follows it when both move
-grown : (n field pad k : ℕ) → paddedTo n field ≡ n + pad → paddedTo (n + k) (field + k) ≡ n + k + pad
-unfolding paddedTo
-grown n field pad k = go (ltb n field) refl
-  where
-    go : (b : Bool) → ltb n field ≡ b → cond b field n ≡ n + pad → cond (ltb (n + k) (field + k)) (field + k) (n + k) ≡ n + k + pad
-    go true e h = rw (lt-ltb (n + k) (field + k) (omega (arith, ltb-true n field e))) (omega arith)
-    go false e h = rw (le-ltb (n + k) (field + k) (omega (arith, ltb-false n field e))) (omega arith)
-
-shrunk : (n field pad k : ℕ) → k ≤ field → paddedTo (n + k) field ≡ n + k + pad → paddedTo n (field - k) ≡ n + pad
-unfolding paddedTo
-shrunk n field pad k l = go (ltb (n + k) field) refl
-  where
-    go : (b : Bool) → ltb (n + k) field ≡ b → cond b field (n + k) ≡ n + k + pad → cond (ltb n (field - k)) (field - k) n ≡ n + pad
-    go true e h = rw (lt-ltb n (field - k) (omega (arith, ltb-true (n + k) field e))) (omega arith)
-    go false e h = rw (le-ltb n (field - k) (omega (arith, ltb-false (n + k) field e))) (omega arith)
-
 module _ (h : Header) (padding : List ℕ) (r : Readable h padding) where
   abbrev Fit : Header → Type 0
   Fit g = All (λ (f : Field). Fits (kind f) (valueOf g f)) fields14
@@ -95,19 +79,19 @@ module _ (h : Header) (padding : List ℕ) (r : Readable h padding) where
         signature & src & enc & guid & one & four & system & software & day & year & size′ & offset′ & vlrs & format′ & each′ & count′ & by-return′ & xs & ys & zs & xo & yo & zo & max-x & min-x & max-y & min-y & max-z & min-z & zero8 & zero8 & zero4 & points′ & large′ & none
 
     pub new-readable : Readable (newHeader h) padding
-    unfolding newHeader newPlaces changedOf startOf evlrOf
+    unfolding newHeader newPlaces changedOf
     new-readable =
         record {
           major = refl;
           minor = omega arith;
           fits = up-fits (r .fits);
-          start-normal = refl;
+          start-normal = no-start;
           start-lacks = λ l. absurd (omega arith);
-          evlr-normal = refl;
+          evlr-normal = no-pair 0;
           evlr-lacks = λ l. absurd (omega arith);
           large-there = refl;
           large-lacks = λ l. absurd (omega arith);
-          end = grown 227 (h .«header_size») (length padding) 148 (rw (version-is 2 1 3 h (g .is)) at (r .end));
+          end = padded-grown 227 (h .«header_size») (length padding) 148 (rw (version-is 2 1 3 h (g .is)) at (r .end));
         }
 
   module _ (g : GoesDown h) where
@@ -145,17 +129,17 @@ module _ (h : Header) (padding : List ℕ) (r : Readable h padding) where
         signature & src & enc & guid & one & two & system & software & day & year & size′ & offset′ & vlrs & format′ & each′ & count′ & by-return′ & xs & ys & zs & xo & yo & zo & max-x & min-x & max-y & min-y & max-z & min-z & zero8 & zero8 & zero4 & points′ & large′ & none
 
     pub old-readable : Readable (oldHeader h) padding
-    unfolding oldHeader oldPlaces changedOf startOf evlrOf
+    unfolding oldHeader oldPlaces changedOf
     old-readable =
         record {
           major = refl;
           minor = omega arith;
           fits = down-fits (r .fits);
-          start-normal = refl;
+          start-normal = no-start;
           start-lacks = λ l. refl;
-          evlr-normal = refl;
+          evlr-normal = no-pair 0;
           evlr-lacks = λ l. refl;
           large-there = refl;
           large-lacks = λ l. refl;
-          end = shrunk 227 (h .«header_size») (length padding) 148 (g .fits .size) (rw (version-is 4 6 7 h (g .is)) at (r .end));
+          end = padded-shrunk 227 (h .«header_size») (length padding) 148 (g .fits .size) (rw (version-is 4 6 7 h (g .is)) at (r .end));
         }

@@ -14,7 +14,8 @@ use Rattle.outline.specs.declared.Outline.{Outline}
 use Rattle.outline.specs.Outline.{outlineOf, header-size-is, no-evlrs}
 use Rattle.rules.specs.declared.Checked.the-variants.{Accepted}
 use Rattle.rules.specs.Rules.{highestFormat}
-use Rattle.extents.specs.Extents.{recordsOf}
+use Rattle.rules.specs.Laws.{highest-formats}
+use Rattle.extents.specs.Extents.{recordsOf, records-are}
 use Rattle.file.specs.Rules.{checkedOf}
 use Rattle.file.specs.Holds.{PartsHold, Holds, judged-holds}
 use Rattle.file.specs.Theorems.{accepted}
@@ -37,11 +38,10 @@ Of true minor = minor ≡ 4
 Of false minor = minor ≡ 2
 
 highest : {up : Bool} {a b : ℕ} → Way up a b → (minor : ℕ) → Of up minor → (b ≤ 10) × (b ≤ highestFormat minor)
-unfolding highestFormat
-highest up-1 minor e = (omega arith, rw e (omega arith))
-highest up-3 minor e = (omega arith, rw e (omega arith))
-highest down-6 minor e = (omega arith, rw e (omega arith))
-highest down-7 minor e = (omega arith, rw e (omega arith))
+highest up-1 minor e = (omega arith, rw e (omega (arith, highest-formats .1)))
+highest up-3 minor e = (omega arith, rw e (omega (arith, highest-formats .1)))
+highest down-6 minor e = (omega arith, rw e (omega (arith, highest-formats .0)))
+highest down-7 minor e = (omega arith, rw e (omega (arith, highest-formats .0)))
 
 module _ (up : Bool) (h : Header) (s : List ℕ) (g : Goer up h s) where
   minor-of : Of up (otherOf up h .version .minor)
@@ -69,8 +69,7 @@ module _ (up : Bool) (h : Header) (s : List ℕ) (g : Goer up h s) where
       go start.None pair.None e = refl
 
   pub same-records : recordsOf (outlineOf (otherOf up h)) ≡ recordsOf (outlineOf h)
-  unfolding recordsOf
-  same-records = omega (arith, moved up h s g .vlrs, moved up h s g .evlrs, no-evlrs h no-pair .1)
+  same-records = omega (arith, records-are (outlineOf h), records-are (outlineOf (otherOf up h)), moved up h s g .vlrs, moved up h s g .evlrs, no-evlrs h no-pair .1)
 
   module _ {p : Plan} {m : ℕ} (goes : runVerdict up (outlineOf h) s ≡ verdict.Goes p m) where
     abbrev new : List ℕ

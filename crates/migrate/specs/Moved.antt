@@ -1,13 +1,11 @@
 -- Where the parts of the new file lie, by its header.
 use Prim.Native.Nat.{ℕ, _+_, _*_, _-_, _^_, _≤_, _<_}
-use mathlib.Core.Path.{_≡_, refl, sym, ap, subst, _∙_}
-use mathlib.Core.Bool.{Bool, true, false, cond}
+use mathlib.Core.Path.{_≡_, sym, ap, subst, _∙_}
+use mathlib.Core.Bool.{Bool, true, false}
 use mathlib.Core.Logic.{_⊎_, inl, inr}
 use mathlib.Core.List.{List}
 use native.Mathlib.Nat.{mul-add, mul-le-mul-left}
 use native.Mathlib.Omega.{arith}
-use borrow.Author.Tests.{eqb-true}
-use lib.Dec.{eqb}
 use lib.ListN.{length}
 use Rattle.format.specs.Fields.{recordBytes}
 use Rattle.format.specs.declared.Format.{Format}
@@ -19,14 +17,15 @@ use Rattle.header.specs.Header.{number, pointsOf}
 use Rattle.header.specs.Judged.{readOf}
 use Rattle.header.specs.Minor.{no-large, points-legacy}
 use Rattle.outline.specs.declared.Outline.{Outline}
-use Rattle.outline.specs.Outline.{outlineOf}
+use Rattle.outline.specs.Outline.{outlineOf, no-evlrs, header-size-is, vlrs-is, offset-is, code-is, count-is, record-length-is}
 use Rattle.rules.specs.Laws.{format-bytes}
 use Rattle.extents.specs.Extents.{pointsEnd}
 use Rattle.file.specs.Holds.{PartsHold, standardIn, Holds, holds-judged}
 use Rattle.file.specs.Points.{pointFormat, format-is, format-long}
 use Rattle.pairs.specs.Pairs.{formatWith}
 use Rattle.header_convert.specs.declared.Goes.the-variants.{Yes}
-use Rattle.header_convert.specs.Turned.{newCode, oldCode, changedOf, newPlaces, oldPlaces, newHeader, oldHeader}
+use Rattle.header_convert.specs.Turned.{newCode, oldCode, newHeader, oldHeader}
+use Rattle.header_convert.specs.Told.{new-placed, old-placed}
 use Rattle.header_convert.specs.Is as is
 use Rattle.header_convert.specs.Goes.{GoesUp, GoesDown, goes-up, goes-down}
 use Rattle.migrate.specs.Migrate.{goesOf, otherOf, extraIn, newLength}
@@ -55,31 +54,31 @@ unfolding oldCode
 down-way f (inl e) = rw e down-6
 down-way f (inr e) = rw e down-7
 
--- a count that is not large is the effective one
-legacy-count : (n : ℕ) → cond (eqb n 0) 0 n ≡ n
-legacy-count n = go (eqb n 0) refl
-  where
-    go : (b : Bool) → eqb n 0 ≡ b → cond b 0 n ≡ n
-    go true e = sym (eqb-true n 0 e)
-    go false e = refl
-
 -- of a header that goes
 moved-up : (h : Header) → GoesUp h → h .«number_of_point_records» ≡ pointsOf h → Moved true (outlineOf h) (outlineOf (newHeader h))
-unfolding outlineOf newHeader newPlaces changedOf pointsOf
 moved-up h g legacy =
-    record { size = refl; offset = refl; each = refl; format = up-way _ (is.format-is 2 1 3 h (g .is)); vlrs = refl; count = legacy; evlrs = refl }
+    let p = new-placed h in
+    record {
+      size = omega (arith, p .size, header-size-is h, header-size-is (newHeader h));
+      offset = omega (arith, p .offset, offset-is h, offset-is (newHeader h));
+      each = omega (arith, p .each, record-length-is h, record-length-is (newHeader h));
+      format = rw (code-is h, code-is (newHeader h) ∙ p .code) (up-way _ (is.format-is 2 1 3 h (g .is)));
+      vlrs = vlrs-is (newHeader h) ∙ p .vlrs ∙ sym (vlrs-is h);
+      count = count-is (newHeader h) ∙ p .count ∙ legacy ∙ sym (count-is h);
+      evlrs = no-evlrs (newHeader h) (p .evlr) .1;
+    }
 
 moved-down : (h : Header) → GoesDown h → Moved false (outlineOf h) (outlineOf (oldHeader h))
-unfolding outlineOf oldHeader oldPlaces changedOf pointsOf
 moved-down h g =
+    let p = old-placed h in
     record {
-      size = omega (arith, g .fits .size);
-      offset = omega (arith, g .fits .offset);
-      each = omega (arith, g .fits .each);
-      format = down-way _ (is.format-is 4 6 7 h (g .is));
-      vlrs = refl;
-      count = legacy-count (pointsOf h);
-      evlrs = refl;
+      size = omega (arith, p .size, g .fits .size, header-size-is h, header-size-is (oldHeader h));
+      offset = omega (arith, p .offset, g .fits .offset, offset-is h, offset-is (oldHeader h));
+      each = omega (arith, p .each, g .fits .each, record-length-is h, record-length-is (oldHeader h));
+      format = rw (code-is h, code-is (oldHeader h) ∙ p .code) (down-way _ (is.format-is 4 6 7 h (g .is)));
+      vlrs = vlrs-is (oldHeader h) ∙ p .vlrs ∙ sym (vlrs-is h);
+      count = count-is (oldHeader h) ∙ p .count ∙ sym (count-is h);
+      evlrs = no-evlrs (oldHeader h) (p .evlr) .1;
     }
 
 -- the points of an accepted file are of the format of their code, and each has the record length

@@ -71,6 +71,10 @@ module _ (h : Header) where
   unfolding outlineOf
   header-size-is = refl
 
+  pub vlrs-is : outlineOf h .«number_of_variable_length_records» ≡ h .«number_of_variable_length_records»
+  unfolding outlineOf
+  vlrs-is = refl
+
   pub offset-is : outlineOf h .«offset_to_point_data» ≡ h .«offset_to_point_data»
   unfolding outlineOf
   offset-is = refl

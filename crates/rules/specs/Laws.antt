@@ -1,6 +1,6 @@
 -- Laws of the formats that the rules speak of.
 use Prim.Native.Nat.{ℕ, _-_, _≤_}
-use mathlib.Core.Path.{_≡_}
+use mathlib.Core.Path.{_≡_, refl}
 use mathlib.Core.Bool.{true, false}
 use native.Mathlib.Omega.{arith}
 use borrow.Author.Tests.{lt-ltb}
@@ -10,7 +10,7 @@ use Rattle.format.specs.Codes.{coded}
 use Rattle.format.specs.Format.{withExtra}
 use Rattle.format.specs.Fields.{recordBytes, lenOf}
 use Rattle.format.specs.Attributes.{coded-bytes, coded-len, coded-filled}
-use Rattle.rules.specs.Rules.{formatBytes}
+use Rattle.rules.specs.Rules.{highestFormat, formatBytes}
 
 -- the bytes of a code's record
 pub format-bytes : (f : ℕ) → (20 ≤ formatBytes f) × (formatBytes f ≤ 67)
@@ -29,3 +29,8 @@ filled-bytes f m h = coded-filled f false m h
 -- a format that is known is not compressed
 pub uncompressed : (f : ℕ) → f ≤ 10 → ltb f 128 ≡ true
 uncompressed f h = lt-ltb f 128 (omega arith)
+
+-- the highest formats of versions 1.2 and 1.4
+pub highest-formats : (highestFormat 2 ≡ 3) × (highestFormat 4 ≡ 10)
+unfolding highestFormat
+highest-formats = (refl, refl)
