@@ -159,7 +159,7 @@ pub(crate) fn fit(record: &mut [u8], format: u8, random: &mut Lcg) {
 }
 
 /// Makes a record that fits offend: alone, it is then refused with the number, if the format can be.
-fn offend(record: &mut [u8], format: u8, number: u64, random: &mut Lcg) {
+pub(crate) fn offend(record: &mut [u8], format: u8, number: u64, random: &mut Lcg) {
     let any = random.byte();
     match number {
         15 => record[FLAGS] |= 8 | any & 7,

@@ -1,15 +1,15 @@
 //! Runs every comparison and says whether nothing differed.
 
 use oracle::{
-    angle, append, convert, convert_plain, file, flags, format, header, listings, nir, point,
-    replay, replay_append, replay_records, report::Tally, strict, vlr,
+    angle, append, convert, convert_plain, file, flags, format, header, listings, migrate, nir,
+    point, replay, replay_append, replay_migrate, replay_records, report::Tally, strict, vlr,
 };
 use std::{env, fs, io, path::Path, process::ExitCode};
 
 /// What there is to compare, by the name that it is asked for by.
-const SUBJECTS: [&str; 13] = [
+const SUBJECTS: [&str; 14] = [
     "format", "flags", "angle", "point", "vlr", "header", "file", "append", "strict", "convert",
-    "nir", "plain", "lists",
+    "migrate", "nir", "plain", "lists",
 ];
 
 /// Compares the subjects that are asked for, or everything where none is. `crates` is where the programs lie that replay the lists.
@@ -27,6 +27,7 @@ fn compare(crates: &Path, write: bool, asked: &[String]) -> io::Result<bool> {
         ("append", append::compare),
         ("strict", strict::compare),
         ("convert", convert::compare),
+        ("migrate", migrate::compare),
         ("nir", nir::compare),
     ] {
         if about(subject) {
@@ -41,6 +42,7 @@ fn compare(crates: &Path, write: bool, asked: &[String]) -> io::Result<bool> {
         replay_records::compare(&mut tally, &crates.join("replay_records"), write)?;
         listings::compare(&mut tally, &crates.join("listings"), write)?;
         replay_append::compare(&mut tally, &crates.join("../c/replay"), write)?;
+        replay_migrate::compare(&mut tally, &crates.join("../c/replay_migrate"), write)?;
     }
     if asked.is_empty() {
         tally.covers(&fs::read_to_string(crates.join("../include/inscjarol.h"))?);

@@ -42,7 +42,7 @@ struct Question {
 }
 
 /// Bytes without pattern.
-struct Stream(u64);
+pub(crate) struct Stream(pub u64);
 
 impl Stream {
     fn byte(&mut self) -> u8 {
@@ -53,19 +53,19 @@ impl Stream {
         (self.0 >> 56) as u8
     }
 
-    fn bytes(&mut self, count: u64) -> Vec<u8> {
+    pub fn bytes(&mut self, count: u64) -> Vec<u8> {
         (0..count).map(|_| self.byte()).collect()
     }
 }
 
 /// A sum over bytes, FNV-1a of 64 bits.
-fn summed(sum: u64, bytes: &[u8]) -> u64 {
+pub(crate) fn summed(sum: u64, bytes: &[u8]) -> u64 {
     bytes.iter().fold(sum, |sum, &byte| {
         (sum ^ u64::from(byte)).wrapping_mul(0x100_0000_01b3)
     })
 }
 
-const NOTHING: u64 = 0xcbf2_9ce4_8422_2325;
+pub(crate) const NOTHING: u64 = 0xcbf2_9ce4_8422_2325;
 
 impl Question {
     fn line(&self) -> String {
