@@ -7,6 +7,7 @@
 #include <string.h>
 
 #include "inscjarol.h"
+#include "replay.h"
 
 /* The numbers of a question. */
 enum {
@@ -34,19 +35,6 @@ enum { MOST = 32768 };
 
 static uint8_t file[MOST], stored[MOST], records[MOST];
 
-/* The next of the bytes without pattern that begin with a seed. */
-static uint8_t next_byte(uint64_t *seed) {
-    *seed = *seed * 6364136223846793005u + 1442695040888963407u;
-    return (uint8_t)(*seed >> 56);
-}
-
-/* The bytes of a number at a place of the file; what would stand past its end is left out. */
-static void put(uint64_t size, uint64_t at, uint64_t width, uint64_t number) {
-    for (uint64_t k = 0; k < width && at + k < size; k++) {
-        file[at + k] = (uint8_t)(number >> 8 * k);
-    }
-}
-
 /* Makes file, records and bounds. */
 static void make(const uint64_t q[NUMBERS], uint64_t bounds[6]) {
     uint64_t seed = q[SEED], size = q[SIZE];
@@ -62,25 +50,25 @@ static void make(const uint64_t q[NUMBERS], uint64_t bounds[6]) {
             bounds[i] |= (uint64_t)next_byte(&seed) << 8 * k;
         }
     }
-    put(size, 0, 4, 0x4653414C);
-    put(size, 24, 1, 1);
-    put(size, 25, 1, q[MINOR]);
-    put(size, 94, 2, q[HEADER_SIZE]);
-    put(size, 96, 4, q[OFFSET]);
-    put(size, 100, 4, q[VLRS]);
-    put(size, 104, 1, q[FORMAT]);
-    put(size, 105, 2, q[LENGTH]);
-    put(size, 107, 4, q[COUNT]);
+    put(file, size, 0, 4, 0x4653414C);
+    put(file, size, 24, 1, 1);
+    put(file, size, 25, 1, q[MINOR]);
+    put(file, size, 94, 2, q[HEADER_SIZE]);
+    put(file, size, 96, 4, q[OFFSET]);
+    put(file, size, 100, 4, q[VLRS]);
+    put(file, size, 104, 1, q[FORMAT]);
+    put(file, size, 105, 2, q[LENGTH]);
+    put(file, size, 107, 4, q[COUNT]);
     for (uint64_t k = 1; k <= 5; k++) {
-        put(size, 107 + 4 * k, 4, k == q[WHICH] ? q[COUNTED] : k);
+        put(file, size, 107 + 4 * k, 4, k == q[WHICH] ? q[COUNTED] : k);
     }
     if (q[MINOR] == 4) {
-        put(size, 235, 8, 0);
-        put(size, 243, 8, 0);
-        put(size, 251, 4, 0);
+        put(file, size, 235, 8, 0);
+        put(file, size, 243, 8, 0);
+        put(file, size, 251, 4, 0);
     }
     for (uint64_t k = 0; k < q[VLRS]; k++) {
-        put(size, q[HEADER_SIZE] + 54 * k + 20, 2, 0);
+        put(file, size, q[HEADER_SIZE] + 54 * k + 20, 2, 0);
     }
     if (q[LAST] > 0) {
         uint64_t bytes = q[N] * q[LENGTH], at = q[OFFSET] + q[COUNT] * q[LENGTH] - bytes;
@@ -91,16 +79,7 @@ static void make(const uint64_t q[NUMBERS], uint64_t bounds[6]) {
     }
 }
 
-/* A sum over bytes, FNV-1a of 64 bits. */
-static uint64_t summed(uint64_t sum, const uint8_t *bytes, uint64_t len) {
-    for (uint64_t i = 0; i < len; i++) {
-        sum = (sum ^ bytes[i]) * 0x100000001B3u;
-    }
-    return sum;
-}
-
 int main(void) {
-    const uint64_t empty = 0xCBF29CE484222325u;
     uint64_t q[NUMBERS], bounds[LAS_BOUNDS_NUMBERS], sweep[LAS_SWEEP_NUMBERS], sector[LAS_SPAN_NUMBERS], row[3], begun[3];
     size_t read = 0;
     while (scanf("%" SCNu64, &q[read]) == 1) {
@@ -115,14 +94,14 @@ int main(void) {
         memcpy(stored, file, q[SIZE]);
         las_append(file, q[SIZE], q[ALLOWANCE], records, q[LENT], q[N], bounds, q[BELIEVED], row);
         printf("%" PRIu64 " %" PRIu64 " %" PRIu64, row[LAS_ROW_NUMBER], row[LAS_ROW_VALUE], row[LAS_ROW_RECORD]);
-        printf(" %" PRIu64, summed(empty, file, q[SIZE]));
+        printf(" %" PRIu64, summed(NO_BYTES, file, q[SIZE]));
 
         las_append_begin(stored, q[SIZE], q[ALLOWANCE], records, q[LENT], q[N], q[BELIEVED], sweep, begun);
         if (memcmp(row, begun, sizeof row) != 0) {
             return EXIT_FAILURE;
         }
         if (row[LAS_ROW_NUMBER] == LAS_OK && row[LAS_ROW_VALUE] == LAS_APPEND_ADDED) {
-            uint64_t sum = empty, stores = las_append_stores(sweep);
+            uint64_t sum = NO_BYTES, stores = las_append_stores(sweep);
             for (uint64_t k = 0; k < stores; k++) {
                 las_append_store(stored, q[SIZE], sweep, records, q[LENT], bounds, k, sector, row);
                 for (int i = 0; i < LAS_SPAN_NUMBERS; i++) {
