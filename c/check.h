@@ -50,6 +50,7 @@ void test_headers(void);
 void test_files(void);
 void test_append(void);
 void test_conversion(void);
+void test_migration(void);
 
 /* A whole small file of version 1.4, with every kind of part, into dst; its bytes. */
 size_t make_file(uint8_t *dst, size_t dst_len);

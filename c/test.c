@@ -96,6 +96,7 @@ int main(int argc, char **argv) {
     test_files();
     test_append();
     test_conversion();
+    test_migration();
 
     static uint8_t file[4096];
     size_t len = make_file(file, sizeof file);

@@ -90,7 +90,10 @@ enum {
     LAS_REFUSED_NOT_VERSION_1_2 = 28,   /* 0, here and below */
     LAS_REFUSED_NO_RECORDS = 29,
     LAS_REFUSED_COUNT_NEITHER = 30,
-    LAS_REFUSED_COUNT_TOO_LARGE = 31
+    LAS_REFUSED_COUNT_TOO_LARGE = 31,
+    LAS_REFUSED_OTHER_VERSION_OR_FORMAT = 32,
+    LAS_REFUSED_EVLRS_OR_WAVEFORMS = 33,
+    LAS_REFUSED_COUNTS_TOO_LARGE_FOR_OLD = 34
 };
 
 /* Some of the caller's bytes, as two numbers: where they start in the slice that was lent, and how many there are. Where there
@@ -624,6 +627,42 @@ void las_convert_to_old(const uint8_t *src, size_t src_len, uint8_t format, uint
  * near infrared of format 10, which that lacks, is 0. */
 void las_convert_to_new(const uint8_t *src, size_t src_len, uint8_t format, uint16_t extra, uint64_t count, uint8_t *dst,
                         size_t dst_len, uint64_t row[3]);
+
+/* ---- whole files, old to new and back ---- */
+
+/* A new file is of version 1.4 with points of format 6 or 7, and an old one of version 1.2 with points of format 1 or 3: 6 and 1
+ * are a pair, 7 and 3. Between them header size, point offset and record length differ, by 148, 148 and 2, and the points are
+ * those of las_convert_to_old or las_convert_to_new. VLRs, padding, gaps and all else of the header are the file's own bytes; so
+ * coordinate-system records stay as they are, though the standard wants WKT for new formats.
+ *
+ * A file that went up comes back byte for byte, unless a point of it has class 28 or a rank that is not from -90 to 90: such a
+ * file goes up, and las_file_ask_old refuses it then. */
+
+/* Whether las_file_to_old can make the new file old; nothing is written, and the value is the bytes of the old file. Refuses as
+ * las_file_check does, then with LAS_REFUSED_OTHER_VERSION_OR_FORMAT where it is no new file; LAS_REFUSED_EVLRS_OR_WAVEFORMS
+ * where it has EVLRs or a waveform start, of which an EVLR start or count without the other is none;
+ * LAS_REFUSED_COUNTS_TOO_LARGE_FOR_OLD where its count of points, or one of the five by return that would be written, is over
+ * 2^32 - 1, or a large count of returns 6 to 15 is not 0; and then as las_convert_ask_old does of its points, with the number of
+ * the first that it refuses. Never refuses with LAS_REFUSED_NO_ROOM. */
+void las_file_ask_old(const uint8_t *file, size_t file_len, uint64_t allowance, uint64_t row[3]);
+
+/* Whether las_file_to_new can make the old file new; nothing is written, and the value is the bytes of the new file. Refuses as
+ * las_file_check does, then with LAS_REFUSED_OTHER_VERSION_OR_FORMAT where it is no old file; LAS_REFUSED_HEADER_SIZE, then
+ * LAS_REFUSED_POINT_OFFSET, where 148 more do not fit the field; and LAS_REFUSED_RECORD_LENGTH where 2 more do not. No point is
+ * refused, and never for want of room. */
+void las_file_ask_new(const uint8_t *file, size_t file_len, uint64_t allowance, uint64_t row[3]);
+
+/* Makes the new file old, at the front of dst, and leaves what lies past it; the value is the bytes of the old file. Its count of
+ * points is the new file's, and its five counts by return are the legacy ones where the legacy count is not 0, else the first
+ * five of the large ones. It asks las_file_ask_old itself, and refuses as that does; then, where dst is shorter than the old
+ * file, with LAS_REFUSED_NO_ROOM and its bytes; and leaves dst. */
+void las_file_to_old(const uint8_t *file, size_t file_len, uint64_t allowance, uint8_t *dst, size_t dst_len, uint64_t row[3]);
+
+/* Makes the old file new, at the front of dst, and leaves what lies past it; the value is the bytes of the new file. Its six
+ * legacy counts are 0; its large count, and the first five of the large ones by return, are what these were, and the other ten
+ * are 0; it has no EVLRs and no waveform start. Refuses as las_file_ask_new does, then with LAS_REFUSED_NO_ROOM, as
+ * las_file_to_old. */
+void las_file_to_new(const uint8_t *file, size_t file_len, uint64_t allowance, uint8_t *dst, size_t dst_len, uint64_t row[3]);
 
 #ifdef __cplusplus
 }
