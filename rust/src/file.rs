@@ -200,6 +200,98 @@ impl<'a> File<'a> {
         self.rewrite(&mut bytes)?;
         Ok(bytes)
     }
+
+    /// Whether the whole file, of LAS 1.4 with points of format 6 or 7, can be made one of LAS 1.2 with points of format 1 or
+    /// 3, and how many bytes it has then. Nothing is written, and no memory is needed.
+    ///
+    /// Refused with 32 where the file is of another version or format; with 33 where it has EVLRs or a waveform start, which
+    /// LAS 1.2 does not have; with 34 where LAS 1.2 cannot count its points, of all returns or of one; and then as
+    /// [`Run::ask_old`] refuses its points, with the number of the first that does not fit. It is never refused with 22.
+    ///
+    /// ```
+    /// # let bytes = std::fs::read("../samples/stockpile.las")?;
+    /// let file = inscjarol::File::check(&bytes)?;
+    /// let refusal = file.ask_old().unwrap_err();
+    /// assert_eq!((refusal.number(), refusal.name()), (33, "EVLRs or waveforms"));
+    /// # Ok::<(), Box<dyn std::error::Error>>(())
+    /// ```
+    pub fn ask_old(&self) -> Result<usize, Refusal> {
+        sys::file_ask_old(self.bytes, self.allowance)
+    }
+
+    /// Whether the whole file, of LAS 1.2 with points of format 1 or 3, can be made one of LAS 1.4 with points of format 6 or
+    /// 7, and how many bytes it has then. Nothing is written, and no memory is needed.
+    ///
+    /// Refused with 32 where the file is of another version or format; with 4, then 9, where the header size or the offset to
+    /// the points would not fit its field with 148 more; and with 8 where a point record would not with 2 more. No point is
+    /// refused.
+    pub fn ask_new(&self) -> Result<usize, Refusal> {
+        sys::file_ask_new(self.bytes, self.allowance)
+    }
+
+    /// Makes the whole file one of LAS 1.2, at the front of `dst`, and answers its length; what lies past that stays.
+    ///
+    /// VLRs, padding, gaps and all of the header that both versions have are the file's own bytes, the points what
+    /// [`Run::to_old`] makes of them. The counts by return are the legacy ones where the legacy count isn't 0, else the large
+    /// ones. It asks [`File::ask_old`] itself, and refuses what that refuses, whatever room there is; then, and only then, it
+    /// is refused with 22 where `dst` is shorter than the bytes that were answered. A refused `dst` is left as it was.
+    pub fn to_old_into(&self, dst: &mut [u8]) -> Result<usize, Refusal> {
+        sys::file_to_old(self.bytes, self.allowance, dst)
+    }
+
+    /// Makes the whole file one of LAS 1.4, at the front of `dst`, and answers its length; what lies past that stays.
+    ///
+    /// The legacy counts become 0, and the large ones hold them. Coordinate-system records are copied as every VLR is, though
+    /// the standard wants WKT for formats 6 to 10. It refuses what [`File::ask_new`] refuses; else it is as
+    /// [`File::to_old_into`].
+    pub fn to_new_into(&self, dst: &mut [u8]) -> Result<usize, Refusal> {
+        sys::file_to_new(self.bytes, self.allowance, dst)
+    }
+
+    /// The whole file as one of LAS 1.2, as [`File::to_old_into`] makes it, in as many bytes as [`File::ask_old`] answers;
+    /// where that refuses, nothing is allocated.
+    pub fn to_old(&self) -> Result<Vec<u8>, Refusal> {
+        let mut old = vec![0; self.ask_old()?];
+        self.to_old_into(&mut old)?;
+        Ok(old)
+    }
+
+    /// The whole file as one of LAS 1.4, as [`File::to_new_into`] makes it, in as many bytes as [`File::ask_new`] answers.
+    ///
+    /// It comes back byte for byte, unless a point of it has class 28 or a rank that is not from -90 to 90: such a file goes
+    /// up, and is refused on the way down.
+    ///
+    /// ```
+    /// use inscjarol::{File, Flags, Format, Header, Point, ScanAngle, Version};
+    ///
+    /// let mut header = Header::new(Version { major: 1, minor: 2 })?;
+    /// header.point_data_record_format = 1;
+    /// header.point_data_record_length = 28;
+    /// header.number_of_point_records = 1;
+    /// header.number_of_points_by_return = [1, 0, 0, 0, 0];
+    /// let point = Point {
+    ///     flags: Flags::TwoByte(0b001_001, 2),
+    ///     scan_angle: ScanAngle::Rank(-7),
+    ///     gps_time: Some(4.5),
+    ///     ..Point::default()
+    /// };
+    /// let mut bytes = header.to_vec(&[])?;
+    /// bytes.extend(point.to_vec(Format::new(1)?)?);
+    ///
+    /// let old = File::check(&bytes)?;
+    /// assert_eq!(old.ask_new()?, 375 + 30);
+    /// let new = old.to_new()?;
+    /// let new = File::check(&new)?;
+    /// assert_eq!(new.header().version, Version { major: 1, minor: 4 });
+    /// assert_eq!(new.points().next().map(|point| point.flags.class()), Some(2));
+    /// assert_eq!(new.to_old()?, bytes);
+    /// # Ok::<(), inscjarol::Refusal>(())
+    /// ```
+    pub fn to_new(&self) -> Result<Vec<u8>, Refusal> {
+        let mut new = vec![0; self.ask_new()?];
+        self.to_new_into(&mut new)?;
+        Ok(new)
+    }
 }
 
 /// What a part of a file is. A later version may know more kinds.

@@ -63,6 +63,9 @@
 //! # }
 //! ```
 //!
+//! A whole file of LAS 1.2 becomes one of LAS 1.4, for clients who move to newer software, by [`File::to_new`], and comes back by
+//! [`File::to_old`].
+//!
 //! A scanner makes a file of LAS 1.2 by [`NewFile`], opens it as a [`Writer`], and appends sweep after sweep: an [`Append`] can be
 //! cut short by a brownout anywhere, and repeated without harm.
 //!

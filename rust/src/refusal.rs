@@ -70,13 +70,19 @@ pub enum Kind {
     CountNeither,
     /// 31: with the offered records a count would be over 2^32 - 1.
     CountTooLarge,
+    /// 32: the whole file is not of a version and a point format that go to the other version.
+    OtherVersionOrFormat,
+    /// 33: the whole file has EVLRs or a waveform start, which LAS 1.2 does not have.
+    EvlrsOrWaveforms,
+    /// 34: the whole file has counts that the header of LAS 1.2 does not hold.
+    CountsTooLargeForOld,
     /// A number that this version of the crate does not know.
     Unknown(u64),
 }
 
 impl Kind {
     /// Every kind that has a number, in the table's order.
-    const ALL: [Kind; 31] = [
+    const ALL: [Kind; 34] = [
         Kind::Short,
         Kind::Signature,
         Kind::Version,
@@ -108,6 +114,9 @@ impl Kind {
         Kind::NoRecords,
         Kind::CountNeither,
         Kind::CountTooLarge,
+        Kind::OtherVersionOrFormat,
+        Kind::EvlrsOrWaveforms,
+        Kind::CountsTooLargeForOld,
     ];
 
     /// The kind with this number.
@@ -153,6 +162,9 @@ impl Kind {
             Kind::NoRecords => 29,
             Kind::CountNeither => 30,
             Kind::CountTooLarge => 31,
+            Kind::OtherVersionOrFormat => 32,
+            Kind::EvlrsOrWaveforms => 33,
+            Kind::CountsTooLargeForOld => 34,
             Kind::Unknown(number) => number,
         }
     }
@@ -191,10 +203,16 @@ impl Kind {
             Kind::NoRecords => "no records",
             Kind::CountNeither => "count neither",
             Kind::CountTooLarge => "count too large",
+            Kind::OtherVersionOrFormat => "other version or format",
+            Kind::EvlrsOrWaveforms => "EVLRs or waveforms",
+            Kind::CountsTooLargeForOld => "counts too large for old",
             Kind::Unknown(_) => "unknown",
         }
     }
 }
+
+/// How many bytes more than a header of LAS 1.2 one of LAS 1.4 has.
+const GROWN: u64 = 148;
 
 /// Why a call refused: the kind, the value that the table has for it, and the number of the record.
 ///
@@ -235,7 +253,7 @@ impl Refusal {
         self.kind
     }
 
-    /// The number in the library's table, 1 to 31.
+    /// The number in the library's table, 1 to 34.
     pub fn number(&self) -> u64 {
         self.kind.number()
     }
@@ -300,6 +318,11 @@ impl fmt::Display for Refusal {
                 value / 256,
                 value % 256
             ),
+            // The file check refuses what is less than a header; above this it is a whole file that is to grow.
+            Kind::HeaderSize if value > 65_535 - GROWN => write!(
+                f,
+                "the header size (header byte 94) is {value}: LAS 1.4 needs {GROWN} bytes more, and 65535 are the most"
+            ),
             Kind::HeaderSize => write!(
                 f,
                 "the header size (header byte 94) is {value}, less than the header itself: 227 bytes in LAS 1.0 to 1.2, \
@@ -326,6 +349,12 @@ impl fmt::Display for Refusal {
             Kind::RecordLength => write!(
                 f,
                 "the point record length (header byte 105) is {value}, less than a point of the file's format has"
+            ),
+            Kind::PointOffset if value > 4_294_967_295 - GROWN => write!(
+                f,
+                "the offset to the point data (header byte 96) is {value}: it must be at least the header size, and \
+                 not beyond the end of the file; and since LAS 1.4 needs {GROWN} bytes more, and 4294967295 are the most, \
+                 a file with this offset cannot go there"
             ),
             Kind::PointOffset => write!(
                 f,
@@ -445,6 +474,20 @@ impl fmt::Display for Refusal {
                 "with the offered records the count of points (header byte 107) or of a return (header bytes 111 to 130) \
                  would be over 4294967295, which is the most that LAS 1.2 can count; another file has to be begun",
             ),
+            Kind::OtherVersionOrFormat => f.write_str(
+                "a whole file goes to LAS 1.4 from LAS 1.2 with points of format 1 or 3, and to LAS 1.2 from LAS 1.4 with \
+                 points of format 6 or 7: this one is of another version (header bytes 24 and 25) or point format (header \
+                 byte 104), and may be where it is to go already",
+            ),
+            Kind::EvlrsOrWaveforms => f.write_str(
+                "the file has EVLRs (header byte 235) or waveform packets (header byte 227), for which LAS 1.2 has no place; \
+                 they have to be taken out first, by a program that knows what they are for",
+            ),
+            Kind::CountsTooLargeForOld => f.write_str(
+                "the counts of the header (header bytes 247 to 374) have no place in LAS 1.2, which counts at most 4294967295 \
+                 points, in all and of each of the returns 1 to 5, and none of returns 6 to 15; the file has to be cut into \
+                 smaller ones, or these returns left out, first",
+            ),
             Kind::Unknown(number) => write!(
                 f,
                 "refusal {number} with value {value}, which this version of the crate does not know"
@@ -465,7 +508,8 @@ mod tests {
         assert_eq!(Kind::from_number(0), Kind::Unknown(0));
         assert_eq!(Kind::from_number(27), Kind::Index);
         assert_eq!(Kind::from_number(31), Kind::CountTooLarge);
-        assert_eq!(Kind::from_number(32), Kind::Unknown(32));
+        assert_eq!(Kind::from_number(34), Kind::CountsTooLargeForOld);
+        assert_eq!(Kind::from_number(35), Kind::Unknown(35));
         assert_eq!(Kind::from_number(u64::MAX), Kind::Unknown(u64::MAX));
     }
 
@@ -473,7 +517,7 @@ mod tests {
     fn every_kind_has_a_name_and_a_sentence_of_its_own() {
         let mut names = Vec::new();
         let mut sentences = Vec::new();
-        for number in 1..=31 {
+        for number in 1..=34 {
             let refusal = Refusal::from_row(number, 7, 3);
             names.push(refusal.name());
             sentences.push(refusal.to_string());
@@ -482,7 +526,7 @@ mod tests {
         names.dedup();
         sentences.sort_unstable();
         sentences.dedup();
-        assert_eq!((names.len(), sentences.len()), (31, 31));
+        assert_eq!((names.len(), sentences.len()), (34, 34));
         assert!(sentences.iter().all(|words| !words.ends_with('.')));
     }
 
@@ -524,5 +568,9 @@ mod tests {
         assert!(words(8, 70_000, 0).contains("would have 70000 bytes"));
         assert!(words(8, 19, 0).contains("record length (header byte 105) is 19"));
         assert!(words(15, 8, 0).starts_with("the return number is 8"));
+        assert!(words(4, 65_387, 0).contains("is 65387, less than the header itself"));
+        assert!(words(4, 65_388, 0).contains("is 65388: LAS 1.4 needs 148 bytes more"));
+        assert!(words(9, 4_294_967_147, 0).ends_with("not beyond the end of the file"));
+        assert!(words(9, 4_294_967_148, 0).ends_with("a file with this offset cannot go there"));
     }
 }

@@ -298,6 +298,22 @@ pub(crate) fn file_rewrite(file: &[u8], allowance: u64, dst: &mut [u8]) -> Resul
     asked(|row| calls::las_file_rewrite(file, allowance, dst, row)).map(in_memory)
 }
 
+pub(crate) fn file_ask_old(file: &[u8], allowance: u64) -> Result<usize, Refusal> {
+    asked(|row| calls::las_file_ask_old(file, allowance, row)).map(in_memory)
+}
+
+pub(crate) fn file_ask_new(file: &[u8], allowance: u64) -> Result<usize, Refusal> {
+    asked(|row| calls::las_file_ask_new(file, allowance, row)).map(in_memory)
+}
+
+pub(crate) fn file_to_old(file: &[u8], allowance: u64, dst: &mut [u8]) -> Result<usize, Refusal> {
+    asked(|row| calls::las_file_to_old(file, allowance, dst, row)).map(in_memory)
+}
+
+pub(crate) fn file_to_new(file: &[u8], allowance: u64, dst: &mut [u8]) -> Result<usize, Refusal> {
+    asked(|row| calls::las_file_to_new(file, allowance, dst, row)).map(in_memory)
+}
+
 // Calls that append records: an offer is the records, how many they are, and how many points are believed to be there.
 
 /// Whether the records were already in; else they were added.

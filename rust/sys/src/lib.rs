@@ -296,6 +296,24 @@ mod lent {
             dst_len: usize,
             row: &mut Row,
         );
+        pub(super) fn las_file_ask_old(file: *const u8, len: usize, allowance: u64, row: &mut Row);
+        pub(super) fn las_file_ask_new(file: *const u8, len: usize, allowance: u64, row: &mut Row);
+        pub(super) fn las_file_to_old(
+            file: *const u8,
+            len: usize,
+            allowance: u64,
+            dst: *mut u8,
+            dst_len: usize,
+            row: &mut Row,
+        );
+        pub(super) fn las_file_to_new(
+            file: *const u8,
+            len: usize,
+            allowance: u64,
+            dst: *mut u8,
+            dst_len: usize,
+            row: &mut Row,
+        );
 
         pub(super) fn las_append(
             file: *mut u8,
@@ -606,6 +624,36 @@ pub fn las_file_rewrite(file: &[u8], allowance: u64, dst: &mut [u8], row: &mut R
     let (to, to_len) = (dst.as_mut_ptr(), dst.len());
     // SAFETY: both pointers go with the lengths of their borrowed slices, of which the one written to is borrowed alone.
     unsafe { lent::las_file_rewrite(file.as_ptr(), file.len(), allowance, to, to_len, row) }
+}
+
+/// Whether a whole file of 1.4 can be made one of 1.2; the value is the bytes that it has then.
+#[inline]
+pub fn las_file_ask_old(file: &[u8], allowance: u64, row: &mut Row) {
+    // SAFETY: pointer and length are those of one borrowed slice.
+    unsafe { lent::las_file_ask_old(file.as_ptr(), file.len(), allowance, row) }
+}
+
+/// Whether a whole file of 1.2 can be made one of 1.4; the value is the bytes that it has then.
+#[inline]
+pub fn las_file_ask_new(file: &[u8], allowance: u64, row: &mut Row) {
+    // SAFETY: pointer and length are those of one borrowed slice.
+    unsafe { lent::las_file_ask_new(file.as_ptr(), file.len(), allowance, row) }
+}
+
+/// Makes a whole file of 1.4 one of 1.2.
+#[inline]
+pub fn las_file_to_old(file: &[u8], allowance: u64, dst: &mut [u8], row: &mut Row) {
+    let (to, to_len) = (dst.as_mut_ptr(), dst.len());
+    // SAFETY: both pointers go with the lengths of their borrowed slices, of which the one written to is borrowed alone.
+    unsafe { lent::las_file_to_old(file.as_ptr(), file.len(), allowance, to, to_len, row) }
+}
+
+/// Makes a whole file of 1.2 one of 1.4.
+#[inline]
+pub fn las_file_to_new(file: &[u8], allowance: u64, dst: &mut [u8], row: &mut Row) {
+    let (to, to_len) = (dst.as_mut_ptr(), dst.len());
+    // SAFETY: both pointers go with the lengths of their borrowed slices, of which the one written to is borrowed alone.
+    unsafe { lent::las_file_to_new(file.as_ptr(), file.len(), allowance, to, to_len, row) }
 }
 
 // Calls that append records: an offer is the records, how many they are, and how many points are believed to be there.

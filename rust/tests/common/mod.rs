@@ -124,6 +124,52 @@ pub fn rich(code: u8, extra: u16) -> Vec<u8> {
     bytes
 }
 
+/// A file of LAS 1.2 in format 1 or 3 that goes to LAS 1.4 and comes back, by chance in all that is free: padding, VLRs, extra
+/// bytes and gaps, any counts by return, and any points but for class 28 and for ranks that are not from -90 to 90.
+pub fn old(code: u8, chance: &mut Chance) -> Vec<u8> {
+    let some = |chance: &mut Chance, most: usize| -> Vec<u8> {
+        let count = chance.below(most + 1);
+        (0..count).map(|_| chance.next() as u8).collect()
+    };
+    let padding = some(chance, 9);
+    let mut vlrs = Vec::new();
+    let count = chance.below(4) as u32;
+    for number in 0..count {
+        let data = some(chance, 40);
+        let vlr = Vlr::new(false, "somebody", number as u16, "by chance", &data);
+        vlrs.extend(vlr.to_vec().unwrap());
+    }
+    vlrs.extend(some(chance, 9));
+    let format = Format::new(code)
+        .unwrap()
+        .with_extra_bytes(chance.below(4) as u16);
+    let length = usize::from(format.len().unwrap());
+    let points = chance.below(7);
+
+    let mut header = Header::new(Version { major: 1, minor: 2 }).unwrap();
+    header.header_size = 227 + padding.len() as u16;
+    header.offset_to_point_data = u32::from(header.header_size) + vlrs.len() as u32;
+    header.number_of_variable_length_records = count;
+    header.point_data_record_format = code;
+    header.point_data_record_length = length as u16;
+    header.number_of_point_records = points as u32;
+    let mut bytes = header.to_vec(&padding).unwrap();
+    for place in (4..24).chain(26..94).chain(111..227) {
+        bytes[place] = chance.next() as u8;
+    }
+    bytes.extend(vlrs);
+    for _ in 0..points {
+        let mut record: Vec<u8> = (0..length).map(|_| chance.next() as u8).collect();
+        if record[15] % 32 == 28 {
+            record[15] -= 1;
+        }
+        record[16] = (chance.below(181) as i8).wrapping_sub(90) as u8;
+        bytes.extend(record);
+    }
+    bytes.extend(some(chance, 9));
+    bytes
+}
+
 /// The folder of the repository, above the package that is tested.
 pub fn repository() -> PathBuf {
     let here = Path::new(env!("CARGO_MANIFEST_DIR"));
