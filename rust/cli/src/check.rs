@@ -44,28 +44,20 @@ fn run(words: &Words, out: &mut Output) -> Result<Status, Failure> {
         *count = count.saturating_add(1);
         Ok(status)
     })?;
-    let left_out = files.left_out();
-    if files.several() && !out.json {
-        let mut sentence = format!(
-            "{}: {} accepted, {} refused",
-            counted(files.count(), "file"),
-            grouped(accepted),
-            grouped(refused)
-        );
-        let unread = files
-            .count()
-            .saturating_sub(accepted)
-            .saturating_sub(refused);
-        if unread > 0 {
-            sentence.push_str(&format!(", {} could not be read", grouped(unread)));
-        }
-        if let Some(left_out) = left_out {
-            sentence.push_str(&format!("; {left_out}"));
-        }
-        out.line(&sentence)?;
-    } else if let Some(left_out) = left_out {
-        out.tell(&left_out);
+    let mut sentence = format!(
+        "{}: {} accepted, {} refused",
+        counted(files.count(), "file"),
+        grouped(accepted),
+        grouped(refused)
+    );
+    let unread = files
+        .count()
+        .saturating_sub(accepted)
+        .saturating_sub(refused);
+    if unread > 0 {
+        sentence.push_str(&format!(", {} could not be read", grouped(unread)));
     }
+    files.sum_up(sentence, out)?;
     Ok(worst)
 }
 

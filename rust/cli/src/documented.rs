@@ -26,7 +26,7 @@ const NOT_ACCEPTED: (&str, &str, &str) = ("accepted", "false", "it is none");
 const NUMBER: (&str, &str, &str) = (
     "refusal.number",
     "number",
-    "1 to 31, by the library's table",
+    "1 to 34, by the library's table",
 );
 const KIND: (&str, &str, &str) = ("refusal.name", "text", "what the table calls it");
 const VALUE: (&str, &str, &str) = (
@@ -39,9 +39,23 @@ const RECORD: (&str, &str, &str) = (
     "number",
     "the VLR or EVLR, counted from 1, or 0",
 );
+const POINT: (&str, &str, &str) = (
+    "refusal.record",
+    "number",
+    "the first point that cannot, counted from 1, or 0",
+);
 const WORDS: (&str, &str, &str) = ("refusal.words", "text", "a sentence");
+const X: (&str, &str, &str) = (
+    "x",
+    "number or null",
+    "where it lies; null where no point is told",
+);
+const Y: (&str, &str, &str) = ("y", "number or null", "");
+const Z: (&str, &str, &str) = ("z", "number or null", "");
 const FORMAT: (&str, &str, &str) = ("format", "number", "point format, 0 to 10");
 const POINTS: (&str, &str, &str) = ("points", "number", "points");
+const TO_FORMAT: (&str, &str, &str) = ("to_format", "number", "the format that they go to");
+const TO_VERSION: (&str, &str, &str) = ("to_version", "text", "the version that it goes to");
 
 /// Every object that there is, with what it is printed for.
 const OBJECTS: &[(&str, Fields)] = &[
@@ -167,7 +181,7 @@ const OBJECTS: &[(&str, Fields)] = &[
             ("can_go", "true", "every point can"),
             FORMAT,
             POINTS,
-            ("to_format", "number", "the format that they go to"),
+            TO_FORMAT,
             (
                 "to_bytes",
                 "number",
@@ -176,33 +190,38 @@ const OBJECTS: &[(&str, Fields)] = &[
         ],
     ),
     (
-        "ask, for a file whose points cannot:",
+        "ask with --to 1.2 or 1.4, for a file that can go:",
+        &[
+            NAME,
+            ACCEPTED,
+            ("can_go", "true", "all of it can"),
+            FORMAT,
+            POINTS,
+            TO_FORMAT,
+            TO_VERSION,
+            ("to_file_bytes", "number", "bytes that the file has then"),
+        ],
+    ),
+    (
+        "ask, for a file that cannot go, or whose points cannot:",
         &[
             NAME,
             ACCEPTED,
             (
                 "can_go",
                 "false",
-                "some point cannot, or its format has no pair",
+                "some point cannot, or the file by its header",
             ),
             FORMAT,
             POINTS,
             NUMBER,
             KIND,
             VALUE,
-            (
-                "refusal.record",
-                "number",
-                "the first point that cannot, counted from 1, or 0",
-            ),
+            POINT,
             WORDS,
-            (
-                "x",
-                "number or null",
-                "where it lies; null where no point is told",
-            ),
-            ("y", "number or null", ""),
-            ("z", "number or null", ""),
+            X,
+            Y,
+            Z,
         ],
     ),
     (
@@ -211,6 +230,55 @@ const OBJECTS: &[(&str, Fields)] = &[
             NAME,
             NOT_ACCEPTED,
             ("can_go", "false", ""),
+            NUMBER,
+            KIND,
+            VALUE,
+            RECORD,
+            WORDS,
+        ],
+    ),
+    (
+        "convert, for a file that was written:",
+        &[
+            NAME,
+            ACCEPTED,
+            ("written", "true", "it went, and is on the disk"),
+            FORMAT,
+            POINTS,
+            TO_FORMAT,
+            TO_VERSION,
+            ("out", "text", "the name of what was written"),
+            ("bytes", "number", "bytes that were written"),
+        ],
+    ),
+    (
+        "convert, for a file that cannot go:",
+        &[
+            NAME,
+            ACCEPTED,
+            (
+                "written",
+                "false",
+                "some point cannot, or the file by its header",
+            ),
+            FORMAT,
+            POINTS,
+            NUMBER,
+            KIND,
+            VALUE,
+            POINT,
+            WORDS,
+            X,
+            Y,
+            Z,
+        ],
+    ),
+    (
+        "convert, for a file that is refused:",
+        &[
+            NAME,
+            NOT_ACCEPTED,
+            ("written", "false", ""),
             NUMBER,
             KIND,
             VALUE,

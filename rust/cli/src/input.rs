@@ -256,6 +256,28 @@ impl Files {
         self.files.len() as u64
     }
 
+    /// What they are called.
+    pub(crate) fn names(&self) -> impl Iterator<Item = &OsStr> {
+        self.files.iter().map(|(name, _)| name.as_os_str())
+    }
+
+    /// Shows each file's name to `then`. The worst status counts.
+    pub(crate) fn each_name(
+        &self,
+        out: &mut Output,
+        mut then: impl FnMut(&OsStr, &mut Output) -> Result<Status, Failure>,
+    ) -> Result<Status, Failure> {
+        let mut worst = Status::Done;
+        for (name, trouble) in &self.files {
+            let status = match trouble {
+                Some(trouble) => out.failed(&Name::new(name), trouble)?,
+                None => then(name, out)?,
+            };
+            worst = worst.max(status);
+        }
+        Ok(worst)
+    }
+
     /// Opens each file and shows its bytes to `then`. What cannot be read is said, and the next file's turn comes; the worst
     /// status counts.
     pub(crate) fn each(
@@ -263,20 +285,24 @@ impl Files {
         out: &mut Output,
         mut then: impl FnMut(&Name, &[u8], &mut Output) -> Result<Status, Failure>,
     ) -> Result<Status, Failure> {
-        let mut worst = Status::Done;
-        for (name, trouble) in &self.files {
+        self.each_name(out, |name, out| {
             let shown = Name::new(name);
-            let opened = match trouble {
-                Some(trouble) => Err(trouble.clone()),
-                None => Input::open(name).map_err(|error| words(&error)),
-            };
-            let status = match opened {
-                Ok(input) => then(&shown, input.bytes(), out)?,
-                Err(words) => out.failed(&shown, &words)?,
-            };
-            worst = worst.max(status);
+            match Input::open(name) {
+                Ok(input) => then(&shown, input.bytes(), out),
+                Err(error) => out.failed(&shown, &words(&error)),
+            }
+        })
+    }
+
+    /// Says what all files come to, where they are several and it is not for programs, and what was left out of the folders.
+    pub(crate) fn sum_up(&self, sentence: String, out: &mut Output) -> Result<(), Failure> {
+        match (self.several() && !out.json, self.left_out()) {
+            (true, None) => out.line(&sentence)?,
+            (true, Some(left_out)) => out.line(&format!("{sentence}; {left_out}"))?,
+            (false, Some(left_out)) => out.tell(&left_out),
+            (false, None) => {}
         }
-        Ok(worst)
+        Ok(())
     }
 }
 

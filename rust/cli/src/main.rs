@@ -24,6 +24,7 @@ mod append;
 mod args;
 mod ask;
 mod check;
+mod convert;
 mod decimal;
 mod documented;
 mod extra;
@@ -41,6 +42,7 @@ mod progress;
 mod replace;
 mod rewrite;
 mod show;
+mod to;
 
 use args::{Opt, Words};
 use output::Output;
@@ -71,6 +73,7 @@ const COMMANDS: &[Command] = &[
     info::COMMAND,
     points::COMMAND,
     ask::COMMAND,
+    convert::COMMAND,
     rewrite::COMMAND,
     append::COMMAND,
 ];
@@ -247,7 +250,7 @@ fn overview() -> String {
     }
     text.push_str(
         "  help     teach a command: inscjarol help points\n\n\
-         Files may be of any size; - is the standard input. Of a folder check, parts, info and ask take the .las files.\n\
+         Files may be of any size; - is the standard input. Of a folder check, parts, info, ask and convert take the .las files.\n\
          Every command takes --json: 'inscjarol help json' says what that prints.\n\
          Exit status: 0 all is well, 1 a file was refused, 2 wrong use or a file that cannot be read or written.\n\n\
          To begin with:\n  inscjarol check *.las\n  inscjarol info FILE\n  inscjarol points FILE | head\n",

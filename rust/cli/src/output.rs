@@ -9,6 +9,8 @@ pub(crate) struct Output {
     to: BufWriter<StdoutLock<'static>>,
     /// Whether it is for programs.
     pub(crate) json: bool,
+    /// Whether the command goes on when nobody reads it any more, since telling is not all that it does.
+    pub(crate) goes_on: bool,
 }
 
 impl Output {
@@ -16,6 +18,7 @@ impl Output {
         Output {
             to: BufWriter::with_capacity(1 << 16, io::stdout().lock()),
             json: false,
+            goes_on: false,
         }
     }
 
@@ -27,12 +30,22 @@ impl Output {
 
     /// Writes bytes.
     pub(crate) fn bytes(&mut self, bytes: &[u8]) -> Result<(), Failure> {
-        Ok(self.to.write_all(bytes)?)
+        let written = self.to.write_all(bytes);
+        self.heard(written)
     }
 
     /// Lets go of all that was written.
     pub(crate) fn flush(&mut self) -> Result<(), Failure> {
-        Ok(self.to.flush()?)
+        let written = self.to.flush();
+        self.heard(written)
+    }
+
+    /// What comes of writing.
+    fn heard(&self, written: io::Result<()>) -> Result<(), Failure> {
+        match written.map_err(Failure::from) {
+            Err(Failure::Closed) if self.goes_on => Ok(()),
+            written => written,
+        }
     }
 
     /// Says a sentence on the standard error, after all that was written; where it cannot be said, nobody listens. Whatever

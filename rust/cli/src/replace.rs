@@ -46,14 +46,18 @@ impl Target {
         }
     }
 
-    /// That a file may be put there: nothing is there, or it is this file, or whatever it is may be replaced; and what is
-    /// there may be written.
-    pub(crate) fn judge(&self, input: (u64, u64), force: bool) -> io::Result<()> {
+    /// What tells the file that is there from every other, if there is one.
+    pub(crate) fn id(&self) -> Option<(u64, u64)> {
+        self.was.as_ref().map(|was| (was.dev(), was.ino()))
+    }
+
+    /// That a file may be put there: nothing is there, or whatever it is may be replaced; and what is there may be written.
+    pub(crate) fn judge(&self, replace: bool) -> io::Result<()> {
         let was = match &self.was {
             Some(was) => was,
             None => return Ok(()),
         };
-        if !force && (was.dev(), was.ino()) != input {
+        if !replace {
             return Err(there());
         }
         // Who may write everything is held to the mode all the same.
@@ -182,6 +186,17 @@ impl Replacement {
             let _ = folder.sync_all();
         }
         Ok(())
+    }
+}
+
+/// Why a file cannot be written, as it is told.
+pub(crate) fn words(error: &io::Error) -> String {
+    match error.kind() {
+        io::ErrorKind::PermissionDenied => {
+            String::from("it may not be written (permission denied)")
+        }
+        io::ErrorKind::NotFound => String::from("there is no such folder"),
+        _ => error.to_string(),
     }
 }
 

@@ -5,7 +5,7 @@ use super::{
     input::{self, Input, Name},
     output::Output,
     progress::Progress,
-    replace::{Replacement, Target},
+    replace::{self, Replacement, Target},
     show::counted,
     Command, Failure, Status,
 };
@@ -65,12 +65,12 @@ fn run(words: &Words, out: &mut Output) -> Result<Status, Failure> {
         Err(error) => return out.failed(&name, &input::words(&error)),
     };
     let place = Target::find(Path::new(to)).and_then(|place| {
-        place.judge(id, words.has("force"))?;
+        place.judge(words.has("force") || place.id() == Some(id))?;
         Ok(place)
     });
     let place = match place {
         Ok(place) => place,
-        Err(error) => return out.failed(&target, &unwritten(&error)),
+        Err(error) => return out.failed(&target, &replace::words(&error)),
     };
     let input = match Input::open(from) {
         Ok(input) => input,
@@ -96,18 +96,7 @@ fn run(words: &Words, out: &mut Output) -> Result<Status, Failure> {
             Ok(Status::Done)
         }
         Err(Unwritten::Refused(refusal)) => out.refused(&name, &refusal),
-        Err(Unwritten::Out(error)) => out.failed(&target, &unwritten(&error)),
-    }
-}
-
-/// Why a file cannot be written, as it is told.
-fn unwritten(error: &io::Error) -> String {
-    match error.kind() {
-        io::ErrorKind::PermissionDenied => {
-            String::from("it may not be written (permission denied)")
-        }
-        io::ErrorKind::NotFound => String::from("there is no such folder"),
-        _ => error.to_string(),
+        Err(Unwritten::Out(error)) => out.failed(&target, &replace::words(&error)),
     }
 }
 

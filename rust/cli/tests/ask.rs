@@ -355,7 +355,9 @@ fn where_to() {
     for to in ["older", "", "OLD"] {
         let (out, err, status) = ask(&["--to", to], &[missing]);
         assert!(
-            err.contains(&format!("--to needs old or new, and '{to}' is neither")),
+            err.contains(&format!(
+                "--to needs one of old, new, 1.2, 1.4, and '{to}' is none;"
+            )),
             "{err}"
         );
         assert!(!err.contains("no such file"));

@@ -140,15 +140,10 @@ fn every_field_that_is_printed_is_told_and_every_one_that_is_told_is_printed() {
 
     let told = told();
     let mut printed: BTreeMap<String, Fields> = BTreeMap::new();
-    let mut see = |command: &str, path: &Path, more: &[&Path]| {
+    let mut see = |words: &[&str], path: &Path, more: &[&Path]| {
+        let command = words[0];
         let mut tool = tool();
-        tool.args(["--json", command]).arg(path).args(more);
-        if command == "append" {
-            tool.args(match more {
-                [] => ["--room", "7"],
-                _ => ["--believed", "2"],
-            });
-        }
+        tool.arg("--json").args(words).arg(path).args(more);
         if command == "points" {
             // All of the standard's fields, also those that the format does not have.
             let of_points = told
@@ -167,9 +162,17 @@ fn every_field_that_is_printed_is_told_and_every_one_that_is_told_is_printed() {
                 (_, true, _) => "every command, for a file that cannot be read or written:",
                 ("check", _, true) => "check, for a file that is refused:",
                 ("append", _, true) => "append, where it is refused:",
-                ("ask", _, true) if has("format") => "ask, for a file whose points cannot:",
+                ("ask", _, true) if has("format") => {
+                    "ask, for a file that cannot go, or whose points cannot:"
+                }
                 ("ask", _, true) => "ask, for a file that is refused:",
+                ("ask", ..) if has("to_version") => {
+                    "ask with --to 1.2 or 1.4, for a file that can go:"
+                }
                 ("ask", ..) => "ask, for a file whose points can go:",
+                ("convert", _, true) if has("format") => "convert, for a file that cannot go:",
+                ("convert", _, true) => "convert, for a file that is refused:",
+                ("convert", ..) => "convert, for a file that was written:",
                 (_, _, true) => "parts, info, points and rewrite, for a file that is refused:",
                 ("check", ..) => "check, for a file that is accepted:",
                 ("parts", ..) => "parts, for a file that is accepted:",
@@ -190,15 +193,17 @@ fn every_field_that_is_printed_is_told_and_every_one_that_is_told_is_printed() {
     };
     for path in &files {
         for command in ["check", "parts", "info", "points", "ask"] {
-            see(command, path, &[]);
+            see(&[command], path, &[]);
         }
+        see(&["ask", "--to", "1.2"], path, &[]);
+        see(&["convert", "--to", "1.2"], path, &[]);
         let name = path.file_name().unwrap().to_str().unwrap();
-        see("rewrite", path, &[&folder.join(&format!("new-{name}"))]);
+        see(&["rewrite"], path, &[&folder.join(&format!("new-{name}"))]);
     }
     let records = folder.put("records", &[0; 40]);
     for path in &files {
-        see("append", path, &[]);
-        see("append", path, &[&records]);
+        see(&["append", "--room", "7"], path, &[]);
+        see(&["append", "--believed", "2"], path, &[&records]);
     }
 
     assert!(printed.keys().eq(told.keys()), "{:?}", told.keys());

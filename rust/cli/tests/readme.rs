@@ -4,7 +4,26 @@
 mod common;
 
 use common::{repository, sample, Folder};
+use inscjarol::{Flags, Format, Header, LargeFile, Point, Version};
 use std::{fs, process::Command};
+
+/// A file of LAS 1.4 with so many points of format 6, all of ground.
+fn ground(points: u64) -> Vec<u8> {
+    let format = Format::new(6).unwrap();
+    let mut header = Header::new(Version { major: 1, minor: 4 }).unwrap();
+    header.point_data_record_format = 6;
+    header.point_data_record_length = format.len().unwrap();
+    header.large_file = Some(LargeFile {
+        number_of_point_records: points,
+        ..LargeFile::default()
+    });
+    let point = Point {
+        flags: Flags::ThreeByte(0x11, 0, 2),
+        ..Point::default()
+    };
+    let record = point.to_vec(format).unwrap();
+    [header.to_vec(&[]).unwrap(), record.repeat(points as usize)].concat()
+}
 
 #[test]
 fn the_tool_says_what_it_shows() {
@@ -13,24 +32,27 @@ fn the_tool_says_what_it_shows() {
     let whole = fs::read(sample()).unwrap();
     folder.put("samples/stockpile.las", &whole);
     folder.put("broken.las", &whole[..50_000]);
+    folder.put("east.las", &ground(1_200));
 
     let readme = fs::read_to_string(repository().join("README.md")).unwrap();
     let mut commands = Vec::new();
     for shown in readme.split("    $ inscjarol ").skip(1) {
         let mut lines = shown.lines();
-        let words: Vec<&str> = lines.next().unwrap().split(' ').collect();
+        let words = lines.next().unwrap();
         let mut expected = String::new();
         for line in lines.map_while(|line| line.strip_prefix("    ")) {
             expected.push_str(line);
             expected.push('\n');
         }
-        commands.push(words[0]);
-        let output = Command::new(env!("CARGO_BIN_EXE_inscjarol"))
-            .args(words)
+        commands.push(words.split(' ').next().unwrap());
+        // As a terminal shows it: what it writes and what it says, in their order.
+        let shown = format!("{} {words} 2>&1", env!("CARGO_BIN_EXE_inscjarol"));
+        let output = Command::new("sh")
+            .args(["-c", &shown])
             .current_dir(folder.join(""))
             .output()
             .unwrap();
         assert_eq!(String::from_utf8(output.stdout).unwrap(), expected);
     }
-    assert_eq!(commands, ["check", "ask"]);
+    assert_eq!(commands, ["check", "ask", "convert"]);
 }

@@ -1189,6 +1189,7 @@ fn wrong_use() {
         &["points", "a", "b"],
         &["ask"],
         &["ask", "--to"],
+        &["convert", "a"],
         &["rewrite", "a"],
         &["check", "--jsn", "a"],
     ] {
@@ -1208,7 +1209,7 @@ fn help() {
         assert_eq!((err.as_str(), status), ("", Some(0)));
     }
     for command in [
-        "check", "parts", "info", "points", "ask", "rewrite", "append",
+        "check", "parts", "info", "points", "ask", "convert", "rewrite", "append",
     ] {
         let (taught, _, status) = told(&run(&["help", command]));
         assert_eq!(status, Some(0));
