@@ -6,6 +6,7 @@
 mod append;
 mod by_hand;
 mod large;
+mod whole;
 mod work;
 
 use std::{hint::black_box, time::Instant};
@@ -241,6 +242,46 @@ fn grow() {
     }
 }
 
+/// A row for each way that a whole file goes and each size: what the call takes, what converting the points alone takes, what the
+/// Rust takes, and memcpy; medians.
+fn convert_whole() {
+    println!(
+        "| whole file | points | port | its points alone | port/points alone | Rust | port/Rust | memcpy | port/memcpy | shortest: port/points alone |"
+    );
+    println!("|---|---|---|---|---|---|---|---|---|---|");
+    for way in whole::WAYS {
+        for count in SIZES {
+            let mut work = whole::Work::new(way, count);
+            let passes = [
+                whole::Work::whole,
+                whole::Work::points,
+                whole::Work::rust,
+                whole::Work::copy,
+            ];
+            for pass in passes {
+                pass(&mut work);
+            }
+            work.check_made();
+            let mut times = passes.map(|_| Times(Vec::new()));
+            for _ in 0..rounds(count) {
+                for (pass, times) in passes.iter().zip(&mut times) {
+                    times.0.push(timed(count, || pass(&mut work)));
+                }
+            }
+            let [port, points, rust, memcpy] = times.each_mut().map(Times::median);
+            let [least_port, least_points, ..] = times.each_ref().map(Times::shortest);
+            println!(
+                "| {} | {count} | {port:.2} | {points:.2} | {:.2} | {rust:.2} | {:.2} | {memcpy:.2} | {:.1} | {:.2} |",
+                way.name,
+                port / points,
+                port / rust,
+                port / memcpy,
+                least_port / least_points,
+            );
+        }
+    }
+}
+
 /// A row for each large file: the shortest times of the check and of memcpy of what it looks at, and how many pages of the
 /// file the check was the first to touch.
 fn check_large() {
@@ -321,6 +362,8 @@ fn main() {
         "\nThe same by the number of points in the file or run: the port's, and the Rust's in brackets.\n"
     );
     grow();
+    println!("\nWhole files beside their points alone: nanoseconds a record, medians.\n");
+    convert_whole();
     println!("\nThe file check of files of 1 GiB: nanoseconds a call; shortest times.\n");
     check_large();
     println!(

@@ -153,14 +153,19 @@ fn file(code: u8, word: u32, record: usize, count: usize) -> Vec<u8> {
         evlrs_at,
     };
     plan.put(&mut file);
-    let (first, rest) = file[POINTS_AT..evlrs_at].split_at_mut(count.min(KEPT) * record);
+    fill_points(word, record, &mut file[POINTS_AT..evlrs_at]);
+    file
+}
+
+/// Fills the place of a file's points.
+pub fn fill_points(word: u32, record: usize, points: &mut [u8]) {
+    let (first, rest) = points.split_at_mut(points.len().min(KEPT * record));
     for (i, bytes) in (0..).zip(first.chunks_exact_mut(record)) {
         fill(word, i, bytes);
     }
     for more in rest.chunks_mut(first.len()) {
         more.copy_from_slice(&first[..more.len()]);
     }
-    file
 }
 
 /// A record as scanners write them: the time is a number, flags and angle of a new format go into the old one, and
