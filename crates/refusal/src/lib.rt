@@ -53,6 +53,8 @@ pub enum Refusal {
     EvlrsOrWaveforms,
     // The counts have no place in an old header.
     CountsTooLargeForOld,
+    // No. 11, the waveform packets: they start before the end of the points or beyond the file.
+    WaveformStart,
 }
 
 // A refusal as document 01 returns it: number, value and record number.
@@ -102,6 +104,7 @@ impl Refusal {
             Refusal::OtherVersionOrFormat => 32,
             Refusal::EvlrsOrWaveforms => 33,
             Refusal::CountsTooLargeForOld => 34,
+            Refusal::WaveformStart => 35,
         }
     }
 
@@ -144,6 +147,7 @@ impl Refusal {
             Refusal::OtherVersionOrFormat => 0,
             Refusal::EvlrsOrWaveforms => 0,
             Refusal::CountsTooLargeForOld => 0,
+            Refusal::WaveformStart => 0,
         }
     }
 
