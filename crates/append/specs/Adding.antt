@@ -21,11 +21,11 @@ use Rattle.offer.specs.Offer.{recordLength, endIn}
 use Rattle.offer.specs.Laws.{Adds, adds}
 use Rattle.offer.specs.Sweeps.{sweep-at, sweep-bytes, sweep-points}
 use Rattle.offer.specs.Tail.{same-offer}
-use Rattle.sectors.specs.Header.{evlrs-12}
+use Rattle.sectors.specs.Header.{none-after-12}
 
--- a file of version 1.2 has no EVLRs
-pub none-in-12 : (a : ℕ) (s : List ℕ) {m : ℕ} → checkedOf a s ≡ Accepted m → readOf s .header .version .minor ≡ 2 → outlineOf (readOf s .header) .«number_of_evlrs» ≡ 0
-none-in-12 a s accepted two = evlrs-12 s (holds-judged s (accepted-holds a s accepted .header)) two .1
+-- a file of version 1.2 has no later records
+pub none-in-12 : (a : ℕ) (s : List ℕ) {m : ℕ} → checkedOf a s ≡ Accepted m → readOf s .header .version .minor ≡ 2 → outlineOf (readOf s .header) .«number_of_later_records» ≡ 0
+none-in-12 a s accepted two = none-after-12 s (holds-judged s (accepted-holds a s accepted .header)) two .1
 
 module _ (a : ℕ) (records : List ℕ) (n believed : ℕ) (s : List ℕ) (w : Sweep) (d : Adds a records n believed s w) where
   abbrev h : Header
@@ -37,7 +37,7 @@ module _ (a : ℕ) (records : List ℕ) (n believed : ℕ) (s : List ℕ) (w : S
   pub holds : Holds a s
   holds = accepted-holds a s (d .proper .accepted)
 
-  pub none : o .«number_of_evlrs» ≡ 0
+  pub none : o .«number_of_later_records» ≡ 0
   none = none-in-12 a s (d .proper .accepted) (d .proper .version)
 
   -- the records go behind the points, and are all there

@@ -33,18 +33,18 @@ stageNumber stage.Header = 0
 stageNumber stage.Vlrs = 1
 stageNumber stage.Points = 2
 stageNumber stage.Between = 3
-stageNumber stage.Evlrs = 4
+stageNumber stage.Later = 4
 
 unfoldable pub stageFrom : ℕ → Stage
 stageFrom n =
-    cond (eqb n 0) stage.Header (cond (eqb n 1) stage.Vlrs (cond (eqb n 2) stage.Points (cond (eqb n 3) stage.Between stage.Evlrs)))
+    cond (eqb n 0) stage.Header (cond (eqb n 1) stage.Vlrs (cond (eqb n 2) stage.Points (cond (eqb n 3) stage.Between stage.Later)))
 
 -- a cursor as nine numbers, and the cursor of nine numbers
 unfoldable pub cursorNumbers : Cursor → List ℕ
 cursorNumbers c =
     stageNumber (c .stage) ∷ c .at ∷ c .left ∷
     c .plan .«header_size» ∷ c .plan .«number_of_vlrs» ∷ c .plan .points ∷ c .plan .«end» ∷
-    c .plan .«start_of_evlrs» ∷ c .plan .«number_of_evlrs» ∷ []
+    c .plan .«start_of_later_records» ∷ c .plan .«number_of_later_records» ∷ []
 
 -- the number at place k
 abbrev pub nth : List ℕ → ℕ → ℕ
@@ -57,8 +57,8 @@ planFrom n =
       «number_of_vlrs» = nth n 4 % 4294967296;
       points = nth n 5;
       «end» = nth n 6;
-      «start_of_evlrs» = nth n 7;
-      «number_of_evlrs» = nth n 8 % 4294967296;
+      «start_of_later_records» = nth n 7;
+      «number_of_later_records» = nth n 8 % 4294967296;
     }
 
 unfoldable pub cursorFrom : List ℕ → Cursor

@@ -1,7 +1,7 @@
 // The parts of a file one after the other, for C and Rust, without a table. A cursor crosses the boundary as nine numbers that the
-// caller keeps: its stage (0 header, 1 VLRs, 2 points, 3 the gap after them, 4 EVLRs), its place, the records left of the stage,
+// caller keeps: its stage (0 header, 1 VLRs, 2 points, 3 the gap after them, 4 the later records), its place, the records left of the stage,
 // and its plan: the header's size, the number of VLRs, the first byte of the points and the one after them, the first byte of the
-// EVLRs and their number. Of a number wider than its field the low bits count, and any stage above 4 is 4. A part is three
+// later records and their number. Of a number wider than its field the low bits count, and any stage above 4 is 4. A part is three
 // numbers, its kind (0 header, 1 VLR, 2 gap, 3 points, 4 EVLR), its first byte and its bytes. Rows are those of the crate words.
 ghost use mathlib.Core.Path.{_≡_};
 ghost use Rattle.cursor.specs.Cursor.{startedOf};
@@ -83,8 +83,8 @@ fn cursor_numbers(c: Cursor) -> [u64; 9]
         plan.number_of_vlrs as u64,
         plan.points,
         plan.end,
-        plan.start_of_evlrs,
-        plan.number_of_evlrs as u64,
+        plan.start_of_later_records,
+        plan.number_of_later_records as u64,
     ]
 }
 
@@ -97,7 +97,7 @@ fn stage_number(stage: Stage) -> u64
         Stage::Vlrs => 1,
         Stage::Points => 2,
         Stage::Between => 3,
-        Stage::Evlrs => 4,
+        Stage::Later => 4,
     }
 }
 
@@ -114,8 +114,8 @@ fn cursor_from(n: &[u64; 9]) -> Cursor
             number_of_vlrs: (n[4] % 4294967296) as u32,
             points: n[5],
             end: n[6],
-            start_of_evlrs: n[7],
-            number_of_evlrs: (n[8] % 4294967296) as u32,
+            start_of_later_records: n[7],
+            number_of_later_records: (n[8] % 4294967296) as u32,
         },
     }
 }
@@ -136,5 +136,5 @@ fn stage_from(n: u64) -> Stage
     if n == 3 {
         return Stage::Between;
     }
-    Stage::Evlrs
+    Stage::Later
 }

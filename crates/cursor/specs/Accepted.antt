@@ -16,7 +16,7 @@ use Rattle.extents.specs.Extents.{pointsEnd}
 use Rattle.file.specs.Rules.{checkedOf}
 use Rattle.file.specs.Holds.{PartsHold}
 use Rattle.file.specs.Theorems.{accepted-holds}
-use Rattle.cursor.specs.Parts.{between, outlineIn, evlrsStart, Laid}
+use Rattle.cursor.specs.Parts.{between, outlineIn, laterStart, Laid}
 
 -- the bytes from a place to the end
 to-end : (from : ℕ) (s : List ℕ) → drop from s ≡ between from (length s) s
@@ -25,19 +25,19 @@ to-end from s = sym (take-all (length s - from) (drop from s) (simp length-drop 
 -- rules 2 to 8 lay the parts out so
 module _ {n minor allowance : ℕ} (o : Outline) (s : List ℕ) (h : PartsHold n minor allowance o s) where
   abbrev After : ℕ → Type 0
-  After start = (pointsEnd o ≤ start) × (start ≤ length s) × Run true (o .«number_of_evlrs») (between start (length s) s)
+  After start = (pointsEnd o ≤ start) × (start ≤ length s) × Run true (o .«number_of_later_records») (between start (length s) s)
 
-  by-count : (b : Bool) → eqb (o .«number_of_evlrs») 0 ≡ b → After (cond b (pointsEnd o) (o .«start_of_first_evlr»))
-  by-count true e = (omega arith, h .points-within, rw (eqb-true (o .«number_of_evlrs») 0 e) tt)
+  by-count : (b : Bool) → eqb (o .«number_of_later_records») 0 ≡ b → After (cond b (pointsEnd o) (o .«start_of_later_records»))
+  by-count true e = (omega arith, h .points-within, rw (eqb-true (o .«number_of_later_records») 0 e) tt)
   by-count false e =
-      let start = h .evlr-start (pos-of-ne-zero (eqb-false _ _ e)) in
-      (start .0, start .1, subst (Run true (o .«number_of_evlrs»)) (to-end (o .«start_of_first_evlr») s) (h .evlrs-whole))
+      let start = h .later-start (pos-of-ne-zero (eqb-false _ _ e)) in
+      (start .0, start .1, subst (Run true (o .«number_of_later_records»)) (to-end (o .«start_of_later_records») s) (h .later-whole))
 
   laid-out : Laid o s
-  unfolding evlrsStart
+  unfolding laterStart
   laid-out =
-      let evlrs = by-count (eqb (o .«number_of_evlrs») 0) refl in
-      record { after-header = h .offset-after-header; vlrs = h .vlrs-whole; after-points = evlrs .0; within = evlrs .1; evlrs = evlrs .2 }
+      let later = by-count (eqb (o .«number_of_later_records») 0) refl in
+      record { after-header = h .offset-after-header; vlrs = h .vlrs-whole; after-points = later .0; within = later .1; later = later .2 }
 
 -- and those of an accepted file
 pub laid : (allowance : ℕ) (s : List ℕ) {n : ℕ} → checkedOf allowance s ≡ checked.Accepted n → Laid (outlineIn s) s

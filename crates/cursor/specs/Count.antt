@@ -19,7 +19,7 @@ use Rattle.cursor.specs.declared.Stage.the-variants as stage
 use Rattle.cursor.specs.declared.Cursor.{Cursor}
 use Rattle.cursor.specs.declared.Step.{Step}
 use Rattle.cursor.specs.Parts.{part, gap, between}
-use Rattle.cursor.specs.Cursor.{cursor, whenBytes, recordsFrom, evlrsFrom, endFrom, pointsFrom, vlrsFrom, leftOf, stepOf, toldBy}
+use Rattle.cursor.specs.Cursor.{cursor, whenBytes, recordsFrom, laterFrom, endFrom, pointsFrom, vlrsFrom, leftOf, stepOf, toldBy}
 use Rattle.cursor.specs.Laws.{left-step}
 
 gap-few : (from to : ℕ) → length (gap from to) ≤ 1
@@ -42,34 +42,34 @@ module _ (s : List ℕ) where
       told-few (extentOf extended (between at to s)) (λ m. part k at m ∷ recordsFrom s k extended n (at + m) to after) (suc n + 1 + length after)
       (λ m. omega (arith, records-few k extended n (at + m) to after))
 
-  evlrs-few : (left at : ℕ) → length (evlrsFrom s left at) ≤ left + 1
-  unfolding evlrsFrom
-  evlrs-few left at = omega (arith, records-few kind.Evlr true left at (length s) [])
+  later-few : (left at : ℕ) → length (laterFrom s left at) ≤ left + 1
+  unfolding laterFrom
+  later-few left at = omega (arith, records-few kind.Evlr true left at (length s) [])
 
-  end-few : (p : Plan) (at : ℕ) → length (endFrom s p at) ≤ p .«number_of_evlrs» + 2
+  end-few : (p : Plan) (at : ℕ) → length (endFrom s p at) ≤ p .«number_of_later_records» + 2
   unfolding endFrom
   end-few p at =
-      let n = p .«number_of_evlrs» in
-      let start = p .«start_of_evlrs» in
-      omega (arith, length-append (gap at start) (evlrsFrom s n start), gap-few at start, evlrs-few n start)
+      let n = p .«number_of_later_records» in
+      let start = p .«start_of_later_records» in
+      omega (arith, length-append (gap at start) (laterFrom s n start), gap-few at start, later-few n start)
 
-  points-few : (p : Plan) → length (pointsFrom s p) ≤ p .«number_of_evlrs» + 3
+  points-few : (p : Plan) → length (pointsFrom s p) ≤ p .«number_of_later_records» + 3
   unfolding pointsFrom
   points-few p = omega (arith, end-few p (p .«end»))
 
-  vlrs-few : (p : Plan) (left at : ℕ) → length (vlrsFrom s p left at) ≤ left + p .«number_of_evlrs» + 4
+  vlrs-few : (p : Plan) (left at : ℕ) → length (vlrsFrom s p left at) ≤ left + p .«number_of_later_records» + 4
   unfolding vlrsFrom
   vlrs-few p left at = omega (arith, records-few kind.Vlr false left at (p .points) (pointsFrom s p), points-few p)
 
-  few-at : (k : Stage) (at left : ℕ) (p : Plan) → length (leftOf s (cursor k at left p)) ≤ left + p .«number_of_vlrs» + p .«number_of_evlrs» + 5
+  few-at : (k : Stage) (at left : ℕ) (p : Plan) → length (leftOf s (cursor k at left p)) ≤ left + p .«number_of_vlrs» + p .«number_of_later_records» + 5
   unfolding leftOf
   few-at stage.Header at left p = omega (arith, vlrs-few p (p .«number_of_vlrs») (p .«header_size»))
   few-at stage.Vlrs at left p = omega (arith, vlrs-few p left at)
   few-at stage.Points at left p = omega (arith, points-few p)
   few-at stage.Between at left p = omega (arith, end-few p at)
-  few-at stage.Evlrs at left p = omega (arith, evlrs-few left at)
+  few-at stage.Later at left p = omega (arith, later-few left at)
 
-  pub few-left : (c : Cursor) → length (leftOf s c) ≤ c .left + c .plan .«number_of_vlrs» + c .plan .«number_of_evlrs» + 5
+  pub few-left : (c : Cursor) → length (leftOf s c) ≤ c .left + c .plan .«number_of_vlrs» + c .plan .«number_of_later_records» + 5
   few-left c = few-at (c .stage) (c .at) (c .left) (c .plan)
 
 -- a step that has a part tells one more than the cursor after it, one that has none tells none

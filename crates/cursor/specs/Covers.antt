@@ -17,8 +17,8 @@ use Rattle.rules.specs.Records.{Run}
 use Rattle.cursor.specs.declared.Kind.{Kind}
 use Rattle.cursor.specs.declared.Kind.the-variants as kind
 use Rattle.cursor.specs.declared.Part.{Part}
-use Rattle.cursor.specs.Parts.{part, gap, between, recordParts, evlrsStart, bodyOf, partsOf, Laid, Covers, joined}
-use Rattle.cursor.specs.Cursor.{planOf, firstOf, recordsFrom, evlrsFrom, endFrom, pointsFrom, vlrsFrom, leftOf}
+use Rattle.cursor.specs.Parts.{part, gap, between, recordParts, laterStart, bodyOf, partsOf, Laid, Covers, joined}
+use Rattle.cursor.specs.Cursor.{planOf, firstOf, recordsFrom, laterFrom, endFrom, pointsFrom, vlrsFrom, leftOf}
 use Rattle.cursor.specs.Laws.{between-short, drop-between}
 
 covers-both : (from mid to : ℕ) (ps qs : List Part) → Covers from mid ps → Covers mid to qs → Covers from to (ps ++ qs)
@@ -62,22 +62,22 @@ module _ (o : Outline) (s : List ℕ) (laid : Laid o s) where
   unfolding partsOf bodyOf
   covered =
       let points = o .«offset_to_point_data» in
-      let start = evlrsStart o in
+      let start = laterStart o in
       let vlrs = recordParts kind.Vlr false (o .«number_of_variable_length_records») (o .«header_size») points s in
-      let evlrs = recordParts kind.Evlr true (o .«number_of_evlrs») start (length s) s in
+      let later = recordParts kind.Evlr true (o .«number_of_later_records») start (length s) s in
       let at-end : points + (pointsEnd o - points) ≡ pointsEnd o = omega (arith, points-from o) in
-      let after : Covers (pointsEnd o) (length s) (gap (pointsEnd o) start ++ evlrs) =
-      covers-both (pointsEnd o) start (length s) (gap (pointsEnd o) start) evlrs (covers-gap (pointsEnd o) start (laid .after-points))
-      (covers-records s kind.Evlr true (o .«number_of_evlrs») start (length s) (laid .within) (laid .evlrs)) in
+      let after : Covers (pointsEnd o) (length s) (gap (pointsEnd o) start ++ later) =
+      covers-both (pointsEnd o) start (length s) (gap (pointsEnd o) start) later (covers-gap (pointsEnd o) start (laid .after-points))
+      (covers-records s kind.Evlr true (o .«number_of_later_records») start (length s) (laid .within) (laid .later)) in
       let before : Covers (o .«header_size») points vlrs = covers-records s kind.Vlr false (o .«number_of_variable_length_records») (o .«header_size») points (laid .after-header) (laid .vlrs) in
-      (refl, rw zero-add (covers-both (o .«header_size») points (length s) vlrs (part kind.Points points (pointsEnd o - points) ∷ (gap (pointsEnd o) start ++ evlrs)) before (refl, rw at-end after)))
+      (refl, rw zero-add (covers-both (o .«header_size») points (length s) vlrs (part kind.Points points (pointsEnd o - points) ∷ (gap (pointsEnd o) start ++ later)) before (refl, rw at-end after)))
 
   -- the first cursor has just these parts to tell
   pub first-tells : leftOf s (firstOf (planOf o)) ≡ partsOf o s
-  unfolding partsOf bodyOf firstOf planOf leftOf vlrsFrom pointsFrom endFrom evlrsFrom
+  unfolding partsOf bodyOf firstOf planOf leftOf vlrsFrom pointsFrom endFrom laterFrom
   first-tells =
-      let evlrs = tells-records s kind.Evlr true (o .«number_of_evlrs») (evlrsStart o) (length s) [] (laid .evlrs) in
-      rw (tells-records s kind.Vlr false (o .«number_of_variable_length_records») (o .«header_size») (o .«offset_to_point_data») _ (laid .vlrs), evlrs, append-nil)
+      let later = tells-records s kind.Evlr true (o .«number_of_later_records») (laterStart o) (length s) [] (laid .later) in
+      rw (tells-records s kind.Vlr false (o .«number_of_variable_length_records») (o .«header_size») (o .«offset_to_point_data») _ (laid .vlrs), later, append-nil)
 
 pub covers-up : (from to : ℕ) (ps : List Part) → Covers from to ps → from ≤ to
 covers-up from to [] e = omega arith

@@ -22,7 +22,7 @@ use Rattle.cursor.specs.declared.Cursor.{Cursor}
 use Rattle.cursor.specs.declared.Started.{Started}
 use Rattle.cursor.specs.declared.Started.the-variants as started
 use Rattle.cursor.specs.declared.Step.{Step}
-use Rattle.cursor.specs.Parts.{part, gap, between, outlineIn, evlrsStart}
+use Rattle.cursor.specs.Parts.{part, gap, between, outlineIn, laterStart}
 
 -- the numbers of an outline that a cursor goes by
 unfoldable pub planOf : Outline → Plan
@@ -32,8 +32,8 @@ planOf o =
       «number_of_vlrs» = o .«number_of_variable_length_records»;
       points = o .«offset_to_point_data»;
       «end» = pointsEnd o;
-      «start_of_evlrs» = evlrsStart o;
-      «number_of_evlrs» = o .«number_of_evlrs»;
+      «start_of_later_records» = laterStart o;
+      «number_of_later_records» = o .«number_of_later_records»;
     }
 
 -- a cursor at a place, with so many records left of its stage
@@ -86,24 +86,24 @@ vlrsStep s c =
     cond (ltb 0 (c .left)) (recordStep s kind.Vlr false (c .plan .points) c)
     (pastGap (c .at) (c .plan .points) (cursor stage.Points (c .plan .points) 0 (c .plan)) (pointsStep (c .plan)))
 
-unfoldable pub evlrsStep : List ℕ → Cursor → Step
-evlrsStep s c =
+unfoldable pub laterStep : List ℕ → Cursor → Step
+laterStep s c =
     cond (ltb 0 (c .left)) (recordStep s kind.Evlr true (length s) c)
-    (pastGap (c .at) (length s) (cursor stage.Evlrs (length s) 0 (c .plan)) (ended c))
+    (pastGap (c .at) (length s) (cursor stage.Later (length s) 0 (c .plan)) (ended c))
 
--- the cursor at the first EVLR
-abbrev pub atEvlrs : Plan → Cursor
-atEvlrs p = cursor stage.Evlrs (p .«start_of_evlrs») (p .«number_of_evlrs») p
+-- the cursor at the first of the later records
+abbrev pub atLater : Plan → Cursor
+atLater p = cursor stage.Later (p .«start_of_later_records») (p .«number_of_later_records») p
 
 unfoldable pub betweenStep : List ℕ → Cursor → Step
-betweenStep s c = pastGap (c .at) (c .plan .«start_of_evlrs») (atEvlrs (c .plan)) (evlrsStep s (atEvlrs (c .plan)))
+betweenStep s c = pastGap (c .at) (c .plan .«start_of_later_records») (atLater (c .plan)) (laterStep s (atLater (c .plan)))
 
 abbrev pub stepAt : Stage → List ℕ → Cursor → Step
 stepAt stage.Header s c = headerStep (c .plan)
 stepAt stage.Vlrs s c = vlrsStep s c
 stepAt stage.Points s c = pointsStep (c .plan)
 stepAt stage.Between s c = betweenStep s c
-stepAt stage.Evlrs s c = evlrsStep s c
+stepAt stage.Later s c = laterStep s c
 
 -- What a step tells of the file s.
 unfoldable pub stepOf : List ℕ → Cursor → Step
@@ -115,11 +115,11 @@ unfoldable pub recordsFrom : List ℕ → Kind → Bool → ℕ → ℕ → ℕ 
 recordsFrom s kind extended zero at to after = gap at to ++ after
 recordsFrom s kind extended (suc k) at to after = whenBytes (extentOf extended (between at to s)) (λ n. part kind at n ∷ recordsFrom s kind extended k (at + n) to after) []
 
-unfoldable pub evlrsFrom : List ℕ → ℕ → ℕ → List Part
-evlrsFrom s left at = recordsFrom s kind.Evlr true left at (length s) []
+unfoldable pub laterFrom : List ℕ → ℕ → ℕ → List Part
+laterFrom s left at = recordsFrom s kind.Evlr true left at (length s) []
 
 unfoldable pub endFrom : List ℕ → Plan → ℕ → List Part
-endFrom s p at = gap at (p .«start_of_evlrs») ++ evlrsFrom s (p .«number_of_evlrs») (p .«start_of_evlrs»)
+endFrom s p at = gap at (p .«start_of_later_records») ++ laterFrom s (p .«number_of_later_records») (p .«start_of_later_records»)
 
 unfoldable pub pointsFrom : List ℕ → Plan → List Part
 pointsFrom s p = part kind.Points (p .points) (p .«end» - p .points) ∷ endFrom s p (p .«end»)
@@ -132,7 +132,7 @@ leftAt stage.Header s c = part kind.Header 0 (c .plan .«header_size») ∷ vlrs
 leftAt stage.Vlrs s c = vlrsFrom s (c .plan) (c .left) (c .at)
 leftAt stage.Points s c = pointsFrom s (c .plan)
 leftAt stage.Between s c = endFrom s (c .plan) (c .at)
-leftAt stage.Evlrs s c = evlrsFrom s (c .left) (c .at)
+leftAt stage.Later s c = laterFrom s (c .left) (c .at)
 
 -- All the parts that a cursor has still to tell.
 unfoldable pub leftOf : List ℕ → Cursor → List Part

@@ -12,7 +12,7 @@ use Rattle.rules.specs.Records.{Run}
 use Rattle.cursor.specs.declared.Kind.{Kind}
 use Rattle.cursor.specs.declared.Kind.the-variants.{Header, Vlr, Gap, Points, Evlr}
 use Rattle.cursor.specs.declared.Part.{Part}
-use Rattle.cursor.specs.Parts.{part, gap, between, recordParts, evlrsStart, bodyOf, partsOf, Laid, Each}
+use Rattle.cursor.specs.Parts.{part, gap, between, recordParts, laterStart, bodyOf, partsOf, Laid, Each}
 use Rattle.cursor.specs.Laws.{drop-between}
 
 -- the header is the first part
@@ -52,4 +52,4 @@ module _ (P : Part → Type 0) where
       unfolding bodyOf
       each-part o laid vlrs evlrs points =
           each-both (recordParts Vlr false _ _ _ s) _ (each-record Vlr false vlrs (o .«number_of_variable_length_records») (o .«header_size») (o .«offset_to_point_data») (laid .vlrs))
-          (points, each-both (gap (pointsEnd o) (evlrsStart o)) _ (each-gap (pointsEnd o) (evlrsStart o)) (each-record Evlr true evlrs (o .«number_of_evlrs») (evlrsStart o) (length s) (laid .evlrs)))
+          (points, each-both (gap (pointsEnd o) (laterStart o)) _ (each-gap (pointsEnd o) (laterStart o)) (each-record Evlr true evlrs (o .«number_of_later_records») (laterStart o) (length s) (laid .later)))

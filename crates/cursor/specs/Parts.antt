@@ -38,9 +38,9 @@ recordParts kind extended (suc k) at to s =
 abbrev pub outlineIn : List ℕ → Outline
 outlineIn s = outlineOf (readOf s .header)
 
--- where the EVLRs start; without EVLRs, the end of the points
-unfoldable pub evlrsStart : Outline → ℕ
-evlrsStart o = cond (eqb (o .«number_of_evlrs») 0) (pointsEnd o) (o .«start_of_first_evlr»)
+-- where the later records start; without any, the end of the points
+unfoldable pub laterStart : Outline → ℕ
+laterStart o = cond (eqb (o .«number_of_later_records») 0) (pointsEnd o) (o .«start_of_later_records»)
 
 -- "filled in file order, header with its padding first, empty gaps omitted, points always present"
 unfoldable pub bodyOf : Outline → List ℕ → List Part
@@ -48,8 +48,8 @@ bodyOf o s =
     let points = o .«offset_to_point_data» in
     recordParts Vlr false (o .«number_of_variable_length_records») (o .«header_size») points s
     ++ (part Points points (pointsEnd o - points) ∷
-    (gap (pointsEnd o) (evlrsStart o)
-    ++ recordParts Evlr true (o .«number_of_evlrs») (evlrsStart o) (length s) s))
+    (gap (pointsEnd o) (laterStart o)
+    ++ recordParts Evlr true (o .«number_of_later_records») (laterStart o) (length s) s))
 
 unfoldable pub partsOf : Outline → List ℕ → List Part
 partsOf o s = part Header 0 (o .«header_size») ∷ bodyOf o s
@@ -58,9 +58,9 @@ partsOf o s = part Header 0 (o .«header_size») ∷ bodyOf o s
 pub record Laid (o : Outline) (s : List ℕ) : Type 0 where
   pub after-header : o .«header_size» ≤ o .«offset_to_point_data»
   pub vlrs : Run false (o .«number_of_variable_length_records») (between (o .«header_size») (o .«offset_to_point_data») s)
-  pub after-points : pointsEnd o ≤ evlrsStart o
-  pub within : evlrsStart o ≤ length s
-  pub evlrs : Run true (o .«number_of_evlrs») (between (evlrsStart o) (length s) s)
+  pub after-points : pointsEnd o ≤ laterStart o
+  pub within : laterStart o ≤ length s
+  pub later : Run true (o .«number_of_later_records») (between (laterStart o) (length s) s)
 
 -- The parts ps cover the bytes from one place up to another, none overlapping: each starts where the one before it ends.
 abbrev pub Covers : ℕ → ℕ → List Part → Type 0

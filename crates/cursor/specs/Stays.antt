@@ -17,7 +17,7 @@ use Rattle.cursor.specs.declared.Stage.the-variants as stage
 use Rattle.cursor.specs.declared.Cursor.{Cursor}
 use Rattle.cursor.specs.declared.Step.{Step}
 use Rattle.cursor.specs.Parts.{between}
-use Rattle.cursor.specs.Cursor.{cursor, told, ended, pastGap, whenBytes, recordStep, pointsStep, vlrsStep, evlrsStep, atEvlrs, betweenStep, stepOf}
+use Rattle.cursor.specs.Cursor.{cursor, told, ended, pastGap, whenBytes, recordStep, pointsStep, vlrsStep, laterStep, atLater, betweenStep, stepOf}
 
 never : {A : Type 0} → true ≡ false → A
 never p = let z : _≡_ {A = ℕ} 0 1 = ap (λ (b : Bool). cond b 0 1) p in absurd (omega arith)
@@ -36,11 +36,11 @@ module _ (s : List ℕ) where
   still c false true x k next to past after h e = never
   still c false false x k next to past after h e = h e
 
-  still-evlrs : (at left : ℕ) (p : Plan) → Still (evlrsStep s (cursor stage.Evlrs at left p))
-  unfolding evlrsStep pastGap recordStep stepOf
-  still-evlrs at left p =
-      let c = cursor stage.Evlrs at left p in
-      still c (ltb 0 left) (ltb at (length s)) (extentOf true (between at (length s) s)) kind.Evlr (λ n. cursor stage.Evlrs (at + n) (left - 1) p) (length s) (cursor stage.Evlrs (length s) 0 p) (ended c)
+  still-later : (at left : ℕ) (p : Plan) → Still (laterStep s (cursor stage.Later at left p))
+  unfolding laterStep pastGap recordStep stepOf
+  still-later at left p =
+      let c = cursor stage.Later at left p in
+      still c (ltb 0 left) (ltb at (length s)) (extentOf true (between at (length s) s)) kind.Evlr (λ n. cursor stage.Later (at + n) (left - 1) p) (length s) (cursor stage.Later (length s) 0 p) (ended c)
       (λ e none. e) refl
 
   still-vlrs : (at left : ℕ) (p : Plan) → Still (vlrsStep s (cursor stage.Vlrs at left p))
@@ -51,11 +51,11 @@ module _ (s : List ℕ) where
 
   still-between : (at left : ℕ) (p : Plan) → Still (betweenStep s (cursor stage.Between at left p))
   unfolding betweenStep pastGap
-  still-between at left p = go (ltb at (p .«start_of_evlrs»))
+  still-between at left p = go (ltb at (p .«start_of_later_records»))
     where
-      go : (b : Bool) → Still (cond b (told kind.Gap at (p .«start_of_evlrs» - at) (atEvlrs p)) (evlrsStep s (atEvlrs p)))
+      go : (b : Bool) → Still (cond b (told kind.Gap at (p .«start_of_later_records» - at) (atLater p)) (laterStep s (atLater p)))
       go true = never
-      go false = still-evlrs (p .«start_of_evlrs») (p .«number_of_evlrs») p
+      go false = still-later (p .«start_of_later_records») (p .«number_of_later_records») p
 
   by-stage : (k : Stage) (at left : ℕ) (p : Plan) → Still (stepOf s (cursor k at left p))
   unfolding stepOf
@@ -63,7 +63,7 @@ module _ (s : List ℕ) where
   by-stage stage.Vlrs at left p = still-vlrs at left p
   by-stage stage.Points at left p = never
   by-stage stage.Between at left p = still-between at left p
-  by-stage stage.Evlrs at left p = still-evlrs at left p
+  by-stage stage.Later at left p = still-later at left p
 
   pub stays : (c : Cursor) → Still (stepOf s c)
   stays c = by-stage (c .stage) (c .at) (c .left) (c .plan)

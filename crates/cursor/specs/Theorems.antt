@@ -13,7 +13,7 @@ use Rattle.cursor.specs.declared.Kind.the-variants.{Header, Vlr, Gap, Po
 use Rattle.cursor.specs.declared.Part.{Part}
 use Rattle.cursor.specs.declared.Cursor.{Cursor}
 use Rattle.cursor.specs.declared.Started.the-variants as started
-use Rattle.cursor.specs.Parts.{part, gap, between, recordParts, outlineIn, evlrsStart, bodyOf, partsOf, Covers, joined}
+use Rattle.cursor.specs.Parts.{part, gap, between, recordParts, outlineIn, laterStart, bodyOf, partsOf, Covers, joined}
 use Rattle.cursor.specs.Cursor.{planOf, firstOf, startedOf, stepOf, leftOf, toldBy}
 use Rattle.cursor.specs.Laws.{left-step}
 use Rattle.cursor.specs.Stays.{stays}
@@ -59,7 +59,7 @@ none-for-ever = stays
 
 -- document 01's example: "version 1.2, header size 227, one VLR with 4 data bytes, point offset 287, format 0, two points, 327 bytes"
 pub worked : (s : List ℕ) → length s ≡ 327 → recordSize false (between 227 287 s) ≡ 58
-    → partsOf (record { «header_size» = 227; «offset_to_point_data» = 287; «number_of_variable_length_records» = 1; «point_data_record_format» = 0; «point_data_record_length» = 20; «number_of_point_records» = 2; «start_of_first_evlr» = 0; «number_of_evlrs» = 0 }) s
+    → partsOf (record { «header_size» = 227; «offset_to_point_data» = 287; «number_of_variable_length_records» = 1; «point_data_record_format» = 0; «point_data_record_length» = 20; «number_of_point_records» = 2; «start_of_later_records» = 0; «number_of_later_records» = 0 }) s
     ≡ part Header 0 227 ∷ part Vlr 227 58 ∷ part Gap 285 2 ∷ part Points 287 40 ∷ []
-unfolding partsOf bodyOf recordParts gap evlrsStart
+unfolding partsOf bodyOf recordParts gap laterStart
 worked s l r = rw (r, l)

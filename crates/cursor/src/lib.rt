@@ -1,10 +1,10 @@
 // The parts of a file, told one after the other in file order: the header with its padding, the VLRs, a gap, the points, a
-// gap, the EVLRs and the gap after them; empty gaps are left out.
+// gap, the later records and the gap after them; empty gaps are left out.
 ghost use mathlib.Core.Path.{_≡_};
 ghost use Prim.Native.Nat.{_<_, _-_};
 ghost use Rattle.extents.specs.Extents.{pointsEnd};
-ghost use Rattle.cursor.specs.Parts.{between, evlrsStart};
-ghost use Rattle.cursor.specs.Cursor.{planOf, firstOf, startedOf, told, ended, recordStep, headerStep, pointsStep, vlrsStep, evlrsStep, betweenStep, stepOf};
+ghost use Rattle.cursor.specs.Parts.{between, laterStart};
+ghost use Rattle.cursor.specs.Cursor.{planOf, firstOf, startedOf, told, ended, recordStep, headerStep, pointsStep, vlrsStep, laterStep, betweenStep, stepOf};
 use header::Header;
 use outline::Outline;
 use refusal::Refusal;
@@ -26,24 +26,24 @@ pub struct Part {
     pub length: u64,
 }
 
-// The numbers of an outline that a cursor goes by: the first byte of the points and the one after them, and the EVLRs'; where
+// The numbers of an outline that a cursor goes by: the first byte of the points and the one after them, and the later records'; where
 // there are none, these start at the end of the points.
 pub struct Plan {
     pub header_size: u64,
     pub number_of_vlrs: u32,
     pub points: u64,
     pub end: u64,
-    pub start_of_evlrs: u64,
-    pub number_of_evlrs: u32,
+    pub start_of_later_records: u64,
+    pub number_of_later_records: u32,
 }
 
-// What is told next: the header, a VLR or the gap after them, the points, the gap after them, an EVLR or the last gap.
+// What is told next: the header, a VLR or the gap after them, the points, the gap after them, a later record or the last gap.
 pub enum Stage {
     Header,
     Vlrs,
     Points,
     Between,
-    Evlrs,
+    Later,
 }
 
 // A place in a file, and how many records are left of its stage.
@@ -97,8 +97,8 @@ fn first(o: Outline) -> Cursor
         number_of_vlrs: o.number_of_variable_length_records,
         points,
         end,
-        start_of_evlrs: start_of_evlrs(o, end),
-        number_of_evlrs: o.number_of_evlrs,
+        start_of_later_records: start_of_later_records(o, end),
+        number_of_later_records: o.number_of_later_records,
     };
     Cursor {
         stage: Stage::Header,
@@ -108,15 +108,15 @@ fn first(o: Outline) -> Cursor
     }
 }
 
-// Where the EVLRs start; without EVLRs, the end of the points.
-fn start_of_evlrs(o: Outline, end: u64) -> u64
+// Where the later records start; without any, the end of the points.
+fn start_of_later_records(o: Outline, end: u64) -> u64
     requires { ⌜ end ≡ pointsEnd o ⌝ }
-    ensures { λ r. ⌜ r ≡ evlrsStart o ⌝ }
+    ensures { λ r. ⌜ r ≡ laterStart o ⌝ }
 {
-    if o.number_of_evlrs == 0 {
+    if o.number_of_later_records == 0 {
         return end;
     }
-    o.start_of_first_evlr
+    o.start_of_later_records
 }
 
 // The part at the cursor and the cursor after it. After the last part, and at a record that is not all there, it has none and
@@ -130,7 +130,7 @@ pub fn next(file: &[u8], c: Cursor) -> Step
         Stage::Vlrs => step_vlrs(file, c),
         Stage::Points => step_points(c.plan),
         Stage::Between => step_between(file, c),
-        Stage::Evlrs => step_evlrs(file, c),
+        Stage::Later => step_later(file, c),
     }
 }
 
@@ -198,20 +198,20 @@ fn step_between(file: &[u8], c: Cursor) -> Step
 {
     let p = c.plan;
     let next = Cursor {
-        stage: Stage::Evlrs,
-        at: p.start_of_evlrs,
-        left: p.number_of_evlrs,
+        stage: Stage::Later,
+        at: p.start_of_later_records,
+        left: p.number_of_later_records,
         plan: p,
     };
-    if c.at < p.start_of_evlrs {
-        return told(Kind::Gap, c.at, p.start_of_evlrs - c.at, next);
+    if c.at < p.start_of_later_records {
+        return told(Kind::Gap, c.at, p.start_of_later_records - c.at, next);
     }
-    step_evlrs(file, next)
+    step_later(file, next)
 }
 
-// An EVLR; after the last the gap at the end of the file.
-fn step_evlrs(file: &[u8], c: Cursor) -> Step
-    ensures { λ r. ⌜ r ≡ evlrsStep (now (file .entry)) c ⌝ }
+// A later record; after the last the gap at the end of the file.
+fn step_later(file: &[u8], c: Cursor) -> Step
+    ensures { λ r. ⌜ r ≡ laterStep (now (file .entry)) c ⌝ }
 {
     let len = file.len() as u64;
     if c.left > 0 {
@@ -224,7 +224,7 @@ fn step_evlrs(file: &[u8], c: Cursor) -> Step
             c.at,
             len - c.at,
             Cursor {
-                stage: Stage::Evlrs,
+                stage: Stage::Later,
                 at: len,
                 left: 0,
                 plan: p,

@@ -26,26 +26,26 @@ pointRule o s = rule (leb (pointsEnd o) (length s)) (PointExtent (o .«number_of
 
 -- Rule 8: "If there are EVLRs: start before the end of points or beyond the file: 14; then for each, 10, or 13 if it doesn't end
 -- in the file. The allowance is one for both kinds."
-unfoldable pub evlrRules : ℕ → Outline → List ℕ → List Rule
-evlrRules allowance o s =
+unfoldable pub laterRules : ℕ → Outline → List ℕ → List Rule
+laterRules allowance o s =
     let vlrs = o .«number_of_variable_length_records» in
-    let start = o .«start_of_first_evlr» in
-    cond (eqb (o .«number_of_evlrs») 0) []
+    let start = o .«start_of_later_records» in
+    cond (eqb (o .«number_of_later_records») 0) []
     (rule (leb (pointsEnd o) start) (EvlrStart start) vlrs ∷
     rule (leb start (length s)) (EvlrStart start) vlrs ∷
-    recordRules true allowance vlrs (o .«number_of_evlrs») (drop start s))
+    recordRules true allowance vlrs (o .«number_of_later_records») (drop start s))
 
 -- Rules 6 to 8, and 2 to 8.
 unfoldable pub partRules : ℕ → Outline → List ℕ → List Rule
-partRules allowance o s = vlrRules allowance o s ++ (pointRule o s ∷ evlrRules allowance o s)
+partRules allowance o s = vlrRules allowance o s ++ (pointRule o s ∷ laterRules allowance o s)
 
 unfoldable pub outlineRules : ℕ → ℕ → ℕ → Outline → List ℕ → List Rule
 outlineRules n minor allowance o s = headerRules n minor o (length s) ++ partRules allowance o s
 
 -- all records, VLRs and EVLRs
 unfoldable pub recordsOf : Outline → ℕ
-recordsOf o = o .«number_of_variable_length_records» + o .«number_of_evlrs»
+recordsOf o = o .«number_of_variable_length_records» + o .«number_of_later_records»
 
-pub records-are : (o : Outline) → recordsOf o ≡ o .«number_of_variable_length_records» + o .«number_of_evlrs»
+pub records-are : (o : Outline) → recordsOf o ≡ o .«number_of_variable_length_records» + o .«number_of_later_records»
 unfolding recordsOf
 records-are o = refl

@@ -3,7 +3,7 @@ ghost use mathlib.Core.Path.{_≡_};
 ghost use mathlib.Core.List.{_∷_};
 ghost use Rattle.rules.specs.declared.Checked.the-variants as checked;
 ghost use Rattle.rules.specs.Rules.{first};
-ghost use Rattle.extents.specs.Extents.{pointsEnd, pointRule, evlrRules, partRules, outlineRules, recordsOf};
+ghost use Rattle.extents.specs.Extents.{pointsEnd, pointRule, laterRules, partRules, outlineRules, recordsOf};
 ghost use Rattle.extents.specs.Steps.{Bounded};
 use outline::Outline;
 use refusal::Refusal;
@@ -43,7 +43,7 @@ fn check_parts(file: &[u8], allowance: u64, o: Outline) -> Checked
 // Rules 7 and 8. The points' end is tested by a division, so nothing wraps.
 fn check_points(file: &[u8], allowance: u64, o: Outline) -> Checked
     requires { ⌜ Bounded o (now file) ⌝ }
-    ensures { λ r. ⌜ r ≡ first (pointRule o (now (file .entry)) ∷ evlrRules allowance o (now (file .entry))) (checked.Accepted (recordsOf o)) ⌝ }
+    ensures { λ r. ⌜ r ≡ first (pointRule o (now (file .entry)) ∷ laterRules allowance o (now (file .entry))) (checked.Accepted (recordsOf o)) ⌝ }
 {
     let offset = o.offset_to_point_data as usize;
     let record_length = o.point_data_record_length as usize;
@@ -54,17 +54,17 @@ fn check_points(file: &[u8], allowance: u64, o: Outline) -> Checked
             o.number_of_variable_length_records as u64,
         );
     }
-    check_evlrs(file, allowance, o, offset + count * record_length)
+    check_later(file, allowance, o, offset + count * record_length)
 }
 
 // Rule 8, for points that end at `end`.
-fn check_evlrs(file: &[u8], allowance: u64, o: Outline, end: usize) -> Checked
+fn check_later(file: &[u8], allowance: u64, o: Outline, end: usize) -> Checked
     requires { ⌜ end ≡ pointsEnd o ⌝ }
-    ensures { λ r. ⌜ r ≡ first (evlrRules allowance o (now (file .entry))) (checked.Accepted (recordsOf o)) ⌝ }
+    ensures { λ r. ⌜ r ≡ first (laterRules allowance o (now (file .entry))) (checked.Accepted (recordsOf o)) ⌝ }
 {
     let vlrs = o.number_of_variable_length_records;
-    let start = o.start_of_first_evlr;
-    if o.number_of_evlrs == 0 {
+    let start = o.start_of_later_records;
+    if o.number_of_later_records == 0 {
         return Checked::Accepted {
             records: vlrs as u64,
         };
@@ -76,5 +76,5 @@ fn check_evlrs(file: &[u8], allowance: u64, o: Outline, end: usize) -> Checked
         return rules::refused(Refusal::EvlrStart(start), vlrs as u64);
     }
     let rest = &file[start as usize..];
-    rules::check_records(rest, true, allowance, vlrs, o.number_of_evlrs)
+    rules::check_records(rest, true, allowance, vlrs, o.number_of_later_records)
 }

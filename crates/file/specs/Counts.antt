@@ -18,7 +18,7 @@ use Rattle.outline.specs.Outline.{outlineOf}
 use Rattle.rules.specs.declared.Checked.{Checked}
 use Rattle.rules.specs.declared.Checked.the-variants.{Accepted, Refused}
 use Rattle.rules.specs.Rules.{Rule, refusedBy, first, headerRules, recordRules}
-use Rattle.extents.specs.Extents.{pointsEnd, vlrBytes, vlrRules, pointRule, evlrRules, partRules, outlineRules, recordsOf}
+use Rattle.extents.specs.Extents.{pointsEnd, vlrBytes, vlrRules, pointRule, laterRules, partRules, outlineRules, recordsOf}
 use Rattle.file.specs.Rules.{readable, standardSize, rulesOf, checkedOf}
 use Rattle.rules.specs.First.{All}
 use Rattle.rules.specs.Records.{Run, records-hold}
@@ -81,10 +81,10 @@ module _ (n minor a : ℕ) (o : Outline) (s : List ℕ) where
   pub vlr-bytes : o .«header_size» ≤ o .«offset_to_point_data» → o .«offset_to_point_data» ≤ length s → length (vlrBytes o s) ≡ o .«offset_to_point_data» - o .«header_size»
   vlr-bytes after inside = length-take-le (o .«offset_to_point_data» - o .«header_size») (drop (o .«header_size») s) (rw length-drop (omega arith))
 
-  -- and the EVLRs after them
-  sound-evlrs : o .«number_of_variable_length_records» ≤ a → 54 * o .«number_of_variable_length_records» ≤ o .«offset_to_point_data» → o .«offset_to_point_data» ≤ length s → Sound a (length s) (evlrRules a o s)
-  unfolding evlrRules
-  sound-evlrs allowed before within = go (eqb (o .«number_of_evlrs») 0)
+  -- and the later records after them
+  sound-later : o .«number_of_variable_length_records» ≤ a → 54 * o .«number_of_variable_length_records» ≤ o .«offset_to_point_data» → o .«offset_to_point_data» ≤ length s → Sound a (length s) (laterRules a o s)
+  unfolding laterRules
+  sound-later allowed before within = go (eqb (o .«number_of_later_records») 0)
     where
       fits : Fits a (length s) (o .«number_of_variable_length_records»)
       fits = (allowed, omega arith)
@@ -96,9 +96,9 @@ module _ (n minor a : ℕ) (o : Outline) (s : List ℕ) where
         λ after. (
           fits,
           λ inside.
-              let from : o .«offset_to_point_data» ≤ o .«start_of_first_evlr» = omega (arith, leb-true (pointsEnd o) (o .«start_of_first_evlr») after) in
-              let to : o .«start_of_first_evlr» ≤ length s = leb-true _ _ inside in
-              sound-records a (length s) true (o .«number_of_variable_length_records») (o .«number_of_evlrs») (drop (o .«start_of_first_evlr») s) allowed
+              let from : o .«offset_to_point_data» ≤ o .«start_of_later_records» = omega (arith, leb-true (pointsEnd o) (o .«start_of_later_records») after) in
+              let to : o .«start_of_later_records» ≤ length s = leb-true _ _ inside in
+              sound-records a (length s) true (o .«number_of_variable_length_records») (o .«number_of_later_records») (drop (o .«start_of_later_records») s) allowed
               (rw length-drop (omega arith)),
         ),
       )
@@ -129,7 +129,7 @@ module _ (n minor a : ℕ) (o : Outline) (s : List ℕ) where
                         (λ all.
                         let held = records-hold false a 0 (o .«number_of_variable_length_records») (vlrBytes o s) (omega arith) all in
                         let most = run-bytes false (o .«number_of_variable_length_records») (vlrBytes o s) (held .1) in
-                        ((omega (arith, held .0), omega arith), λ _. sound-evlrs (omega (arith, held .0)) (omega arith) to)),
+                        ((omega (arith, held .0), omega arith), λ _. sound-later (omega (arith, held .0)) (omega arith) to)),
                   ),
                 ),
               ),
@@ -141,17 +141,17 @@ module _ (n minor a : ℕ) (o : Outline) (s : List ℕ) where
   -- all of them, where all rules hold
   pub all-fit : PartsHold n minor a o s → Fits a (length s) (recordsOf o)
   unfolding recordsOf
-  all-fit h = (h .allowed, go (o .«number_of_evlrs») refl)
+  all-fit h = (h .allowed, go (o .«number_of_later_records») refl)
     where
       vlrs : 54 * o .«number_of_variable_length_records» ≤ o .«offset_to_point_data»
       vlrs = omega (arith, run-bytes false (o .«number_of_variable_length_records») (vlrBytes o s) (h .vlrs-whole), vlr-bytes (h .offset-after-header) (h .offset-within))
 
-      go : (k : ℕ) → o .«number_of_evlrs» ≡ k → 54 * (o .«number_of_variable_length_records» + o .«number_of_evlrs») ≤ length s
+      go : (k : ℕ) → o .«number_of_later_records» ≡ k → 54 * (o .«number_of_variable_length_records» + o .«number_of_later_records») ≤ length s
       go zero p = omega (arith, vlrs, h .offset-within)
       go (suc k) p =
-          let from = h .evlr-start (omega arith) in
-          let evlrs = run-bytes true (o .«number_of_evlrs») (drop (o .«start_of_first_evlr») s) (h .evlrs-whole) in
-          omega (arith, vlrs, from .0, from .1, evlrs, length-drop (o .«start_of_first_evlr») s)
+          let from = h .later-start (omega arith) in
+          let later = run-bytes true (o .«number_of_later_records») (drop (o .«start_of_later_records») s) (h .later-whole) in
+          omega (arith, vlrs, from .0, from .1, later, length-drop (o .«start_of_later_records») s)
 
 -- "this is at most the allowance, and 54 times it is at most the file length"
 pub count-fits : (a : ℕ) (s : List ℕ) → Fits a (length s) (foundOf (checkedOf a s))

@@ -19,7 +19,7 @@ use Rattle.header.specs.Minor.{minor-read}
 use Rattle.outline.specs.declared.Outline.{Outline}
 use Rattle.outline.specs.Outline.{outlineOf}
 use Rattle.rules.specs.Rules.{Rule, rule, highestFormat, formatBytes, headerRules, recordRules}
-use Rattle.extents.specs.Extents.{pointsEnd, vlrBytes, vlrRules, pointRule, evlrRules, partRules, outlineRules}
+use Rattle.extents.specs.Extents.{pointsEnd, vlrBytes, vlrRules, pointRule, laterRules, partRules, outlineRules}
 use Rattle.file.specs.Rules.{readable, standardSize, rulesOf}
 use Rattle.rules.specs.First.{All, all-append, all-split}
 use Rattle.rules.specs.Records.{Run, records-hold, records-all}
@@ -41,14 +41,14 @@ pub record PartsHold (n minor allowance : ℕ) (o : Outline) (s : List ℕ) : Ty
   pub offset-after-header : o .«header_size» ≤ o .«offset_to_point_data»
   pub offset-within : o .«offset_to_point_data» ≤ length s
   -- 6 and 8: an allowance for each VLR and EVLR, one for both kinds
-  pub allowed : o .«number_of_variable_length_records» + o .«number_of_evlrs» ≤ allowance
+  pub allowed : o .«number_of_variable_length_records» + o .«number_of_later_records» ≤ allowance
   -- 6: each VLR ends at or before the point offset
   pub vlrs-whole : Run false (o .«number_of_variable_length_records») (vlrBytes o s)
   -- 7: points end in the file
   pub points-within : pointsEnd o ≤ length s
   -- 8: EVLRs, if any, start after the points and in the file, and each ends in the file
-  pub evlr-start : 0 < o .«number_of_evlrs» → (pointsEnd o ≤ o .«start_of_first_evlr») × (o .«start_of_first_evlr» ≤ length s)
-  pub evlrs-whole : Run true (o .«number_of_evlrs») (drop (o .«start_of_first_evlr») s)
+  pub later-start : 0 < o .«number_of_later_records» → (pointsEnd o ≤ o .«start_of_later_records») × (o .«start_of_later_records» ≤ length s)
+  pub later-whole : Run true (o .«number_of_later_records») (drop (o .«start_of_later_records») s)
 
 -- rule 1, of the bytes alone
 pub record HeaderHolds (s : List ℕ) : Type 0 where
@@ -91,39 +91,39 @@ holds-judged s h =
 
 module _ (n minor a : ℕ) (o : Outline) (s : List ℕ) where
   -- rule 8 and back
-  record Evlrs : Type 0 where
-    allowed : o .«number_of_variable_length_records» + o .«number_of_evlrs» ≤ a
-    start : 0 < o .«number_of_evlrs» → (pointsEnd o ≤ o .«start_of_first_evlr») × (o .«start_of_first_evlr» ≤ length s)
-    whole : Run true (o .«number_of_evlrs») (drop (o .«start_of_first_evlr») s)
+  record Later : Type 0 where
+    allowed : o .«number_of_variable_length_records» + o .«number_of_later_records» ≤ a
+    start : 0 < o .«number_of_later_records» → (pointsEnd o ≤ o .«start_of_later_records») × (o .«start_of_later_records» ≤ length s)
+    whole : Run true (o .«number_of_later_records») (drop (o .«start_of_later_records») s)
 
-  -- the rules where there are EVLRs
+  -- the rules where there are later records
   abbrev pub some : List Rule
   some =
       let vlrs = o .«number_of_variable_length_records» in
-      let start = o .«start_of_first_evlr» in
-      rule (leb (pointsEnd o) start) (EvlrStart start) vlrs ∷ rule (leb start (length s)) (EvlrStart start) vlrs ∷ recordRules true a vlrs (o .«number_of_evlrs») (drop start s)
+      let start = o .«start_of_later_records» in
+      rule (leb (pointsEnd o) start) (EvlrStart start) vlrs ∷ rule (leb start (length s)) (EvlrStart start) vlrs ∷ recordRules true a vlrs (o .«number_of_later_records») (drop start s)
 
-  evlrs-hold : o .«number_of_variable_length_records» ≤ a → All (evlrRules a o s) → Evlrs
-  unfolding evlrRules
-  evlrs-hold enough = go (eqb (o .«number_of_evlrs») 0) refl
+  later-hold : o .«number_of_variable_length_records» ≤ a → All (laterRules a o s) → Later
+  unfolding laterRules
+  later-hold enough = go (eqb (o .«number_of_later_records») 0) refl
     where
-      go : (b : Bool) → eqb (o .«number_of_evlrs») 0 ≡ b → All (cond b [] some) → Evlrs
+      go : (b : Bool) → eqb (o .«number_of_later_records») 0 ≡ b → All (cond b [] some) → Later
       go true p all =
-          let none : o .«number_of_evlrs» ≡ 0 = eqb-true _ _ p in
+          let none : o .«number_of_later_records» ≡ 0 = eqb-true _ _ p in
           record { allowed = omega arith; start = λ more. absurd (omega arith); whole = rw none tt }
       go false p (after, (inside, records)) =
-          let r = records-hold true a (o .«number_of_variable_length_records») (o .«number_of_evlrs») (drop (o .«start_of_first_evlr») s) enough records in
+          let r = records-hold true a (o .«number_of_variable_length_records») (o .«number_of_later_records») (drop (o .«start_of_later_records») s) enough records in
           record { allowed = r .0; start = λ more. (leb-true _ _ after, leb-true _ _ inside); whole = r .1 }
 
-  evlrs-all : Evlrs → All (evlrRules a o s)
-  unfolding evlrRules
-  evlrs-all e = go (eqb (o .«number_of_evlrs») 0) refl
+  later-all : Later → All (laterRules a o s)
+  unfolding laterRules
+  later-all e = go (eqb (o .«number_of_later_records») 0) refl
     where
-      go : (b : Bool) → eqb (o .«number_of_evlrs») 0 ≡ b → All (cond b [] some)
+      go : (b : Bool) → eqb (o .«number_of_later_records») 0 ≡ b → All (cond b [] some)
       go true p = tt
       go false p =
           let from = e .start (pos-of-ne-zero (eqb-false _ _ p)) in
-          (le-leb _ _ (from .0), (le-leb _ _ (from .1), records-all true a (o .«number_of_variable_length_records») (o .«number_of_evlrs») (drop (o .«start_of_first_evlr») s) (e .allowed) (e .whole)))
+          (le-leb _ _ (from .0), (le-leb _ _ (from .1), records-all true a (o .«number_of_variable_length_records») (o .«number_of_later_records») (drop (o .«start_of_later_records») s) (e .allowed) (e .whole)))
 
   pub parts-hold : All (outlineRules n minor a o s) → PartsHold n minor a o s
   unfolding outlineRules headerRules partRules vlrRules pointRule
@@ -131,7 +131,7 @@ module _ (n minor a : ℕ) (o : Outline) (s : List ℕ) where
       let f = o .«point_data_record_format» in
       let split = all-split (vlrRules a o s) _ all in
       let vlrs = records-hold false a 0 (o .«number_of_variable_length_records») (vlrBytes o s) (omega arith) (split .0) in
-      let evlrs = evlrs-hold (omega (arith, vlrs .0)) (split .1 .1) in
+      let later = later-hold (omega (arith, vlrs .0)) (split .1 .1) in
       record {
         header-size = leb-true _ _ size;
         format = low f (leb f 10) refl known (ltb-true _ _ compressed);
@@ -139,11 +139,11 @@ module _ (n minor a : ℕ) (o : Outline) (s : List ℕ) where
         record-length = leb-true _ _ long;
         offset-after-header = leb-true _ _ after;
         offset-within = leb-true _ _ inside;
-        allowed = evlrs .allowed;
+        allowed = later .allowed;
         vlrs-whole = vlrs .1;
         points-within = leb-true _ _ (split .1 .0);
-        evlr-start = evlrs .start;
-        evlrs-whole = evlrs .whole;
+        later-start = later .start;
+        later-whole = later .whole;
       }
     where
       low : (f : ℕ) (b : Bool) → leb f 10 ≡ b → b || leb 128 f ≡ true → f < 128 → f ≤ 10
@@ -168,7 +168,7 @@ module _ (n minor a : ℕ) (o : Outline) (s : List ℕ) where
                   (
                     le-leb _ _ (h .offset-within),
                     all-append (recordRules false a 0 (o .«number_of_variable_length_records») (vlrBytes o s)) _ (records-all false a 0 (o .«number_of_variable_length_records») (vlrBytes o s) (omega (arith, h .allowed)) (h .vlrs-whole))
-                        (le-leb _ _ (h .points-within), evlrs-all (record { allowed = h .allowed; start = h .evlr-start; whole = h .evlrs-whole })),
+                        (le-leb _ _ (h .points-within), later-all (record { allowed = h .allowed; start = h .later-start; whole = h .later-whole })),
                   ),
                 ),
               ),

@@ -1,4 +1,4 @@
--- Changes that the file check does not see, in a file without EVLRs: of the bytes behind its points, and of how many its points are.
+-- Changes that the file check does not see, in a file without later records: of the bytes behind its points, and of how many its points are.
 use Prim.Native.Nat.{ℕ, _+_, _-_, _≤_}
 use mathlib.Core.Path.{_≡_, refl, sym, ap, _∙_}
 use mathlib.Core.List.{List}
@@ -28,7 +28,7 @@ pub same-part : (k : ℕ) (s t : List ℕ) → take k t ≡ take k s → (n at :
 same-part k s t same n at inside =
     sym (part-take k t n at inside) ∙ ap (λ (l : List ℕ). take n (drop at l)) same ∙ part-take k s n at inside
 
-module _ (a : ℕ) (s t : List ℕ) (h : Holds a s) (none : outlineOf (readOf s .header) .«number_of_evlrs» ≡ 0) (long : length t ≡ length s) where
+module _ (a : ℕ) (s t : List ℕ) (h : Holds a s) (none : outlineOf (readOf s .header) .«number_of_later_records» ≡ 0) (long : length t ≡ length s) where
   abbrev o : Outline
   o = outlineOf (readOf s .header)
 
@@ -47,8 +47,8 @@ module _ (a : ℕ) (s t : List ℕ) (h : Holds a s) (none : outlineOf (readOf s 
           allowed = p .allowed;
           vlrs-whole = rw vlrs (p .vlrs-whole);
           points-within = omega arith;
-          evlr-start = λ some. absurd (omega arith);
-          evlrs-whole = rw none tt;
+          later-start = λ some. absurd (omega arith);
+          later-whole = rw none tt;
         }
 
     pub holds-with : Holds a t

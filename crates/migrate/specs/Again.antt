@@ -69,7 +69,7 @@ module _ (up : Bool) (h : Header) (s : List ℕ) (g : Goer up h s) where
       go start.None pair.None e = refl
 
   pub same-records : recordsOf (outlineOf (otherOf up h)) ≡ recordsOf (outlineOf h)
-  same-records = omega (arith, records-are (outlineOf h), records-are (outlineOf (otherOf up h)), moved up h s g .vlrs, moved up h s g .evlrs, no-evlrs h no-pair .1)
+  same-records = omega (arith, records-are (outlineOf h), records-are (outlineOf (otherOf up h)), moved up h s g .vlrs, moved up h s g .later, no-evlrs h no-pair .1)
 
   module _ {p : Plan} {m : ℕ} (goes : runVerdict up (outlineOf h) s ≡ verdict.Goes p m) where
     abbrev new : List ℕ
@@ -94,11 +94,11 @@ module _ (up : Bool) (h : Header) (s : List ℕ) (g : Goer up h s) where
           record-length = omega (arith, bytes-least (n .«point_data_record_format») (extraIn o), target-length up h s g);
           offset-after-header = go up (w .size) (w .offset);
           offset-within = omega (arith, long);
-          allowed = omega (arith, w .vlrs, w .evlrs, q .allowed);
+          allowed = omega (arith, w .vlrs, w .later, q .allowed);
           vlrs-whole = rw (w .vlrs, vlrs-new up h s g goes) (q .vlrs-whole);
           points-within = omega (arith, long);
-          evlr-start = λ some. absurd (omega (arith, w .evlrs));
-          evlrs-whole = rw (w .evlrs) tt;
+          later-start = λ some. absurd (omega (arith, w .later));
+          later-whole = rw (w .later) tt;
         }
       where
         go : (b : Bool) → By b 148 (o .«header_size») (n .«header_size») → By b 148 (o .«offset_to_point_data») (n .«offset_to_point_data») → n .«header_size» ≤ n .«offset_to_point_data»

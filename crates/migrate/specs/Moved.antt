@@ -41,7 +41,7 @@ pub record Moved (up : Bool) (o n : Outline) : Type 0 where
   pub format : Way up (o .«point_data_record_format») (n .«point_data_record_format»)
   pub vlrs : n .«number_of_variable_length_records» ≡ o .«number_of_variable_length_records»
   pub count : n .«number_of_point_records» ≡ o .«number_of_point_records»
-  pub evlrs : n .«number_of_evlrs» ≡ 0
+  pub later : n .«number_of_later_records» ≡ 0
 
 -- the codes
 pub up-way : (f : ℕ) → (f ≡ 1) ⊎ (f ≡ 3) → Way true f (newCode f)
@@ -65,7 +65,7 @@ moved-up h g legacy =
       format = rw (code-is h, code-is (newHeader h) ∙ p .code) (up-way _ (is.format-is 2 1 3 h (g .is)));
       vlrs = vlrs-is (newHeader h) ∙ p .vlrs ∙ sym (vlrs-is h);
       count = count-is (newHeader h) ∙ p .count ∙ legacy ∙ sym (count-is h);
-      evlrs = no-evlrs (newHeader h) (p .evlr) .1;
+      later = no-evlrs (newHeader h) (p .evlr) .1;
     }
 
 moved-down : (h : Header) → GoesDown h → Moved false (outlineOf h) (outlineOf (oldHeader h))
@@ -78,7 +78,7 @@ moved-down h g =
       format = rw (code-is h, code-is (oldHeader h) ∙ p .code) (down-way _ (is.format-is 4 6 7 h (g .is)));
       vlrs = vlrs-is (oldHeader h) ∙ p .vlrs ∙ sym (vlrs-is h);
       count = count-is (oldHeader h) ∙ p .count ∙ sym (count-is h);
-      evlrs = no-evlrs (oldHeader h) (p .evlr) .1;
+      later = no-evlrs (oldHeader h) (p .evlr) .1;
     }
 
 -- the points of an accepted file are of the format of their code, and each has the record length

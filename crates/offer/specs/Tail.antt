@@ -1,4 +1,4 @@
--- The bytes behind the points of an accepted file without EVLRs are no part of an offer.
+-- The bytes behind the points of an accepted file without later records are no part of an offer.
 use Prim.Native.Nat.{ℕ, _+_, _*_, _-_, _≤_}
 use mathlib.Core.Path.{_≡_, refl, sym, ap, _∙_}
 use mathlib.Core.Bool.{Bool, true, false, _&&_}
@@ -40,7 +40,7 @@ module _ (h : Header) (records : List ℕ) (n believed : ℕ) (s t : List ℕ) (
   same-offered long = rw (same-in, long)
 
 -- "Demand 2 reads the tail's bytes as free until counted": bytes that agree up to the end of the points have the same offer
-module _ (a : ℕ) (s t : List ℕ) {m : ℕ} (accepted : checkedOf a s ≡ Accepted m) (none : outlineOf (readOf s .header) .«number_of_evlrs» ≡ 0) (long : length t ≡ length s) (same : take (endIn (readOf s .header)) t ≡ take (endIn (readOf s .header)) s) where
+module _ (a : ℕ) (s t : List ℕ) {m : ℕ} (accepted : checkedOf a s ≡ Accepted m) (none : outlineOf (readOf s .header) .«number_of_later_records» ≡ 0) (long : length t ≡ length s) (same : take (endIn (readOf s .header)) t ≡ take (endIn (readOf s .header)) s) where
   pub same-offer : (records : List ℕ) (n believed : ℕ) → offerOf a records n believed t ≡ offerOf a records n believed s
   unfolding offerOf
   same-offer records n believed =

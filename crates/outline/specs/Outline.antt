@@ -17,7 +17,7 @@ abbrev pub evlrCount : OptionEvlr → ℕ
 evlrCount (pair.Some e) = e .«number_of_evlrs»
 evlrCount pair.None = 0
 
--- the header's fields of the same names, with the effective count
+-- the header's fields of the same names, with the effective count; the later records, those after the points, are the EVLRs
 unfoldable pub outlineOf : Header → Outline
 outlineOf h =
     record {
@@ -27,8 +27,8 @@ outlineOf h =
       «point_data_record_format» = h .«point_data_record_format»;
       «point_data_record_length» = h .«point_data_record_length»;
       «number_of_point_records» = pointsOf h;
-      «start_of_first_evlr» = evlrStart (h .evlr);
-      «number_of_evlrs» = evlrCount (h .evlr);
+      «start_of_later_records» = evlrStart (h .evlr);
+      «number_of_later_records» = evlrCount (h .evlr);
     }
 
 -- an outline with another count
@@ -41,8 +41,8 @@ counting points o =
       «point_data_record_format» = o .«point_data_record_format»;
       «point_data_record_length» = o .«point_data_record_length»;
       «number_of_point_records» = points;
-      «start_of_first_evlr» = o .«start_of_first_evlr»;
-      «number_of_evlrs» = o .«number_of_evlrs»;
+      «start_of_later_records» = o .«start_of_later_records»;
+      «number_of_later_records» = o .«number_of_later_records»;
     }
 
 -- is that of a header that says the same but for its points
@@ -56,12 +56,12 @@ outline-alike g h a =
       «point_data_record_format» = a .format i;
       «point_data_record_length» = a .each i;
       «number_of_point_records» = pointsOf g;
-      «start_of_first_evlr» = evlrStart (a .evlr i);
-      «number_of_evlrs» = evlrCount (a .evlr i);
+      «start_of_later_records» = evlrStart (a .evlr i);
+      «number_of_later_records» = evlrCount (a .evlr i);
     }
 
 -- without EVLRs both of their numbers are 0
-pub no-evlrs : (h : Header) → h .evlr ≡ pair.None → (outlineOf h .«start_of_first_evlr» ≡ 0) × (outlineOf h .«number_of_evlrs» ≡ 0)
+pub no-evlrs : (h : Header) → h .evlr ≡ pair.None → (outlineOf h .«start_of_later_records» ≡ 0) × (outlineOf h .«number_of_later_records» ≡ 0)
 unfolding outlineOf
 no-evlrs h none = (ap evlrStart none, ap evlrCount none)
 

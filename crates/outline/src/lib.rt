@@ -5,7 +5,8 @@ ghost use Rattle.outline.specs.Outline.{evlrStart, evlrCount, outlineOf}
 use header::Header;
 use header::OptionEvlr;
 
-// The header's fields of these names; the count is the effective one, and without EVLRs both of theirs are 0.
+// The header's fields of these names; the count is the effective one. The later records, those after the points, are the EVLRs; without them both
+// numbers are 0.
 pub struct Outline {
     pub header_size: u16,
     pub offset_to_point_data: u32,
@@ -13,8 +14,8 @@ pub struct Outline {
     pub point_data_record_format: u8,
     pub point_data_record_length: u16,
     pub number_of_point_records: u64,
-    pub start_of_first_evlr: u64,
-    pub number_of_evlrs: u32,
+    pub start_of_later_records: u64,
+    pub number_of_later_records: u32,
 }
 
 impl Outline {
@@ -30,8 +31,8 @@ impl Outline {
             point_data_record_format: header.point_data_record_format,
             point_data_record_length: header.point_data_record_length,
             number_of_point_records: header.number_of_point_records(),
-            start_of_first_evlr: start_of(evlr),
-            number_of_evlrs: number_of(evlr),
+            start_of_later_records: start_of(evlr),
+            number_of_later_records: number_of(evlr),
         }
     }
 }

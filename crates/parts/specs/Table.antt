@@ -34,7 +34,7 @@ abbrev pub nothing : Refusal → ℕ → Cursor → Filling
 nothing r k c = record { answer = tabled.Refused r k; entries = 0; cursor = c }
 
 abbrev pub nowhere : Cursor
-nowhere = cursor stage.Evlrs 0 0 (record { «header_size» = 0; «number_of_vlrs» = 0; points = 0; «end» = 0; «start_of_evlrs» = 0; «number_of_evlrs» = 0 })
+nowhere = cursor stage.Later 0 0 (record { «header_size» = 0; «number_of_vlrs» = 0; points = 0; «end» = 0; «start_of_later_records» = 0; «number_of_later_records» = 0 })
 
 abbrev pub fillingBy : Started → List ℕ → ℕ → Filling
 fillingBy (started.At c) s room =

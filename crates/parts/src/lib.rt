@@ -89,7 +89,7 @@ fn nowhere() -> Cursor
     ensures { λ r. ⌜ r ≡ nowhere ⌝ }
 {
     Cursor {
-        stage: Stage::Evlrs,
+        stage: Stage::Later,
         at: 0,
         left: 0,
         plan: Plan {
@@ -97,8 +97,8 @@ fn nowhere() -> Cursor
             number_of_vlrs: 0,
             points: 0,
             end: 0,
-            start_of_evlrs: 0,
-            number_of_evlrs: 0,
+            start_of_later_records: 0,
+            number_of_later_records: 0,
         },
     }
 }

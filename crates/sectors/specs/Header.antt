@@ -139,7 +139,7 @@ module _ (w : Sweep) (bounds : List ℕ) where
     pub outline-read : readOf s .header .version .minor ≡ 2 → outlineOf (readOf (withHeader w bounds s) .header) ≡ counting (w .points) (outlineOf (readOf s .header))
     outline-read two = ap outlineOf header-read ∙ outline-with (readOf s .header) (no-large s p (omega arith))
 
--- In version 1.2 the outline's count is the header's field, which has four bytes, and there are no EVLRs.
+-- In version 1.2 the outline's count is the header's field, which has four bytes, and there are no later records.
 module _ (s : List ℕ) {n e : ℕ} (p : judged s ≡ Whole n e) (two : readOf s .header .version .minor ≡ 2) where
   pub count-12 : outlineOf (readOf s .header) .«number_of_point_records» ≡ number LegacyNumberOfPointRecords s
   count-12 = count-is (readOf s .header) ∙ points-legacy (readOf s .header) (no-large s p (omega arith)) ∙ points-read s p
@@ -147,5 +147,5 @@ module _ (s : List ℕ) {n e : ℕ} (p : judged s ≡ Whole n e) (two : readOf s
   pub count-12-fits : Bytes s → outlineOf (readOf s .header) .«number_of_point_records» < 2 ^ 32
   count-12-fits bytes = rw count-12 (num-lt 4 s (place LegacyNumberOfPointRecords) bytes)
 
-  pub evlrs-12 : (outlineOf (readOf s .header) .«start_of_first_evlr» ≡ 0) × (outlineOf (readOf s .header) .«number_of_evlrs» ≡ 0)
-  evlrs-12 = no-evlrs (readOf s .header) (no-evlr s p (omega arith))
+  pub none-after-12 : (outlineOf (readOf s .header) .«start_of_later_records» ≡ 0) × (outlineOf (readOf s .header) .«number_of_later_records» ≡ 0)
+  none-after-12 = no-evlrs (readOf s .header) (no-evlr s p (omega arith))

@@ -12,7 +12,7 @@ returns c =
     λ i.
     stage .stage-number .ensures i ∷ p .at ∷ p .left ∷
     p .plan .«header_size» ∷ p .plan .«number_of_vlrs» ∷ p .plan .points ∷ p .plan .«end» ∷
-    p .plan .«start_of_evlrs» ∷ p .plan .«number_of_evlrs» ∷ []
+    p .plan .«start_of_later_records» ∷ p .plan .«number_of_later_records» ∷ []
 
 pub cursor-numbers-spec : {M : Type 1} → statement M
 cursor-numbers-spec = tie.close (tie.spec (λ c κs. search needs) (λ c. search needs) (λ c. search needs) (λ c. search needs) returns)

@@ -11,12 +11,12 @@ mul-end c = record { fits = omega arith }
 add-end : tie.Need-add-end
 add-end c = record { fits = omega arith }
 
-start-of-evlrs-requires : tie.Need-start-of-evlrs-requires
-start-of-evlrs-requires c κs = search needs
+start-of-later-records-requires : tie.Need-start-of-later-records-requires
+start-of-later-records-requires c κs = search needs
 
 returns : tie.Need-returns
 unfolding firstOf planOf
-returns c = rw (← (c .start-of-evlrs .ensures))
+returns c = rw (← (c .start-of-later-records .ensures))
 
 pub first-spec : {M : Type 1} → statement M
-first-spec = tie.close (tie.spec (λ c. search needs) (λ c. search needs) mul-end add-end (λ c. search needs) start-of-evlrs-requires returns)
+first-spec = tie.close (tie.spec (λ c. search needs) (λ c. search needs) mul-end add-end (λ c. search needs) start-of-later-records-requires returns)

@@ -25,7 +25,7 @@ returns-4 : tie.Need-returns-4
 returns-4 c = c .step-between .ensures ∙ at-stage _ _ (c .before .enum-told4 .given .1)
 
 returns-5 : tie.Need-returns-5
-returns-5 c = c .step-evlrs .ensures ∙ at-stage _ _ (c .before .enum-told5 .given .1)
+returns-5 c = c .step-later .ensures ∙ at-stage _ _ (c .before .enum-told5 .given .1)
 
 pub next-spec : {M : Type 1} → statement M
 next-spec =

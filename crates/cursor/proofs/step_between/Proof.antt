@@ -11,4 +11,4 @@ step-between-spec =
     tie.close
     (tie.spec
     (λ c. search needs) (λ c κs. search needs) (λ c. c .told .ensures ∙ sym (gap-told _ _ _ _ (c .before .before .before .if1 .taken)))
-    (λ c κs. search needs) (λ c. c .step-evlrs .ensures ∙ sym (gap-passed _ _ _ _ (c .before .if1 .left))))
+    (λ c κs. search needs) (λ c. c .step-later .ensures ∙ sym (gap-passed _ _ _ _ (c .before .if1 .left))))

@@ -28,13 +28,13 @@ ends c =
 
 returns-2 : tie.Need-returns-2
 unfolding first pointRule
-returns-2 c = rw (le-leb _ _ (ends (c .before))) (c .check-evlrs .ensures)
+returns-2 c = rw (le-leb _ _ (ends (c .before))) (c .check-later .ensures)
 
-check-evlrs-requires : tie.Need-check-evlrs-requires
-check-evlrs-requires c κs = refl
+check-later-requires : tie.Need-check-later-requires
+check-later-requires c κs = refl
 
 pub check-points-spec : {M : Type 1} → statement M
 check-points-spec =
     tie.close
     (tie.spec
-    (λ c. search needs) (λ c. search needs) (λ c. search needs) (λ c. search needs) (λ c. search needs) (λ c κs. search needs) returns (λ c. omega (arith, ends c)) (λ c. omega (arith, ends c)) check-evlrs-requires returns-2)
+    (λ c. search needs) (λ c. search needs) (λ c. search needs) (λ c. search needs) (λ c. search needs) (λ c κs. search needs) returns (λ c. omega (arith, ends c)) (λ c. omega (arith, ends c)) check-later-requires returns-2)

@@ -15,8 +15,8 @@ returns c =
       «point_data_record_format» = h .«point_data_record_format»;
       «point_data_record_length» = h .«point_data_record_length»;
       «number_of_point_records» = c .before .before .number-of-point-records .ensures i;
-      «start_of_first_evlr» = c .before .start-of .ensures i;
-      «number_of_evlrs» = c .number-of .ensures i;
+      «start_of_later_records» = c .before .start-of .ensures i;
+      «number_of_later_records» = c .number-of .ensures i;
     }
 
 pub of-spec : {M : Type 1} → statement M

@@ -1,14 +1,14 @@
 use mathlib.Core.Path.{sym, _∙_}
 use borrow.Author.Needs.{needs}
 use borrow.Author.Tests.{le-ltb, lt-ltb}
-use Rattle.cursor.specs.Cursor.{evlrsStep}
+use Rattle.cursor.specs.Cursor.{laterStep}
 use Rattle.cursor.specs.Laws.{gap-told, gap-passed}
-use Rattle.cursor.proofs.step_evlrs.Statement.{statement}
-use Rattle.cursor.proofs.step_evlrs.Tie as tie
+use Rattle.cursor.proofs.step_later.Statement.{statement}
+use Rattle.cursor.proofs.step_later.Tie as tie
 
-pub step-evlrs-spec : {M : Type 1} → statement M
-unfolding evlrsStep
-step-evlrs-spec =
+pub step-later-spec : {M : Type 1} → statement M
+unfolding laterStep
+step-later-spec =
     tie.close
     (tie.spec
     (λ c κs. search needs) (λ c. rw (lt-ltb _ _ (c .before .if1 .taken)) (c .step-record .ensures)) (λ c. search needs)
