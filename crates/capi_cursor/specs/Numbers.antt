@@ -1,6 +1,6 @@
--- A part as three numbers, a cursor as nine, both ways, and the rows of its calls.
+-- A part as three numbers, a cursor as ten, both ways, and the rows of its calls.
 use Prim.Native.Nat.{ℕ, _%_}
-use mathlib.Core.Bool.{Bool, true, false, cond}
+use mathlib.Core.Bool.{Bool, true, false, cond, not}
 use mathlib.Core.List.{List, [], _∷_}
 use lib.Dec.{eqb}
 use lib.ListN.{getD}
@@ -23,6 +23,7 @@ kindNumber kind.Vlr = 1
 kindNumber kind.Gap = 2
 kindNumber kind.Points = 3
 kindNumber kind.Evlr = 4
+kindNumber kind.Waveform = 5
 
 -- kind, start and length
 abbrev pub partNumbers : Part → List ℕ
@@ -39,12 +40,12 @@ unfoldable pub stageFrom : ℕ → Stage
 stageFrom n =
     cond (eqb n 0) stage.Header (cond (eqb n 1) stage.Vlrs (cond (eqb n 2) stage.Points (cond (eqb n 3) stage.Between stage.Later)))
 
--- a cursor as nine numbers, and the cursor of nine numbers
+-- a cursor as ten numbers, and the cursor of ten numbers
 unfoldable pub cursorNumbers : Cursor → List ℕ
 cursorNumbers c =
     stageNumber (c .stage) ∷ c .at ∷ c .left ∷
     c .plan .«header_size» ∷ c .plan .«number_of_vlrs» ∷ c .plan .points ∷ c .plan .«end» ∷
-    c .plan .«start_of_later_records» ∷ c .plan .«number_of_later_records» ∷ []
+    c .plan .«start_of_later_records» ∷ c .plan .«number_of_later_records» ∷ cond (c .plan .waveform) 1 0 ∷ []
 
 -- the number at place k
 abbrev pub nth : List ℕ → ℕ → ℕ
@@ -57,6 +58,7 @@ planFrom n =
       «number_of_vlrs» = nth n 4 % 4294967296;
       points = nth n 5;
       «end» = nth n 6;
+      waveform = not (eqb (nth n 9) 0);
       «start_of_later_records» = nth n 7;
       «number_of_later_records» = nth n 8 % 4294967296;
     }

@@ -19,7 +19,7 @@ use Rattle.file.specs.Theorems.{accepted-holds}
 use Rattle.cursor.specs.Parts.{between, outlineIn, laterStart, Laid}
 
 -- the bytes from a place to the end
-to-end : (from : ℕ) (s : List ℕ) → drop from s ≡ between from (length s) s
+pub to-end : (from : ℕ) (s : List ℕ) → drop from s ≡ between from (length s) s
 to-end from s = sym (take-all (length s - from) (drop from s) (simp length-drop (omega arith)))
 
 -- rules 2 to 8 lay the parts out so

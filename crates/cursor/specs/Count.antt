@@ -18,7 +18,7 @@ use Rattle.cursor.specs.declared.Stage.{Stage}
 use Rattle.cursor.specs.declared.Stage.the-variants as stage
 use Rattle.cursor.specs.declared.Cursor.{Cursor}
 use Rattle.cursor.specs.declared.Step.{Step}
-use Rattle.cursor.specs.Parts.{part, gap, between}
+use Rattle.cursor.specs.Parts.{part, gap, between, laterKind}
 use Rattle.cursor.specs.Cursor.{cursor, whenBytes, recordsFrom, laterFrom, endFrom, pointsFrom, vlrsFrom, leftOf, stepOf, toldBy}
 use Rattle.cursor.specs.Laws.{left-step}
 
@@ -42,16 +42,16 @@ module _ (s : List ℕ) where
       told-few (extentOf extended (between at to s)) (λ m. part k at m ∷ recordsFrom s k extended n (at + m) to after) (suc n + 1 + length after)
       (λ m. omega (arith, records-few k extended n (at + m) to after))
 
-  later-few : (left at : ℕ) → length (laterFrom s left at) ≤ left + 1
+  later-few : (p : Plan) (left at : ℕ) → length (laterFrom s p left at) ≤ left + 1
   unfolding laterFrom
-  later-few left at = omega (arith, records-few kind.Evlr true left at (length s) [])
+  later-few p left at = omega (arith, records-few (laterKind (p .waveform)) true left at (length s) [])
 
   end-few : (p : Plan) (at : ℕ) → length (endFrom s p at) ≤ p .«number_of_later_records» + 2
   unfolding endFrom
   end-few p at =
       let n = p .«number_of_later_records» in
       let start = p .«start_of_later_records» in
-      omega (arith, length-append (gap at start) (laterFrom s n start), gap-few at start, later-few n start)
+      omega (arith, length-append (gap at start) (laterFrom s p n start), gap-few at start, later-few p n start)
 
   points-few : (p : Plan) → length (pointsFrom s p) ≤ p .«number_of_later_records» + 3
   unfolding pointsFrom
@@ -67,7 +67,7 @@ module _ (s : List ℕ) where
   few-at stage.Vlrs at left p = omega (arith, vlrs-few p left at)
   few-at stage.Points at left p = omega (arith, points-few p)
   few-at stage.Between at left p = omega (arith, end-few p at)
-  few-at stage.Later at left p = omega (arith, later-few left at)
+  few-at stage.Later at left p = omega (arith, later-few p left at)
 
   pub few-left : (c : Cursor) → length (leftOf s c) ≤ c .left + c .plan .«number_of_vlrs» + c .plan .«number_of_later_records» + 5
   few-left c = few-at (c .stage) (c .at) (c .left) (c .plan)

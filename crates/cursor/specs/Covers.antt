@@ -17,7 +17,7 @@ use Rattle.rules.specs.Records.{Run}
 use Rattle.cursor.specs.declared.Kind.{Kind}
 use Rattle.cursor.specs.declared.Kind.the-variants as kind
 use Rattle.cursor.specs.declared.Part.{Part}
-use Rattle.cursor.specs.Parts.{part, gap, between, recordParts, laterStart, bodyOf, partsOf, Laid, Covers, joined}
+use Rattle.cursor.specs.Parts.{part, gap, between, recordParts, laterKind, laterStart, bodyOf, partsOf, Laid, Covers, joined}
 use Rattle.cursor.specs.Cursor.{planOf, firstOf, recordsFrom, laterFrom, endFrom, pointsFrom, vlrsFrom, leftOf}
 use Rattle.cursor.specs.Laws.{between-short, drop-between}
 
@@ -64,11 +64,11 @@ module _ (o : Outline) (s : List ℕ) (laid : Laid o s) where
       let points = o .«offset_to_point_data» in
       let start = laterStart o in
       let vlrs = recordParts kind.Vlr false (o .«number_of_variable_length_records») (o .«header_size») points s in
-      let later = recordParts kind.Evlr true (o .«number_of_later_records») start (length s) s in
+      let later = recordParts (laterKind (o .waveform)) true (o .«number_of_later_records») start (length s) s in
       let at-end : points + (pointsEnd o - points) ≡ pointsEnd o = omega (arith, points-from o) in
       let after : Covers (pointsEnd o) (length s) (gap (pointsEnd o) start ++ later) =
       covers-both (pointsEnd o) start (length s) (gap (pointsEnd o) start) later (covers-gap (pointsEnd o) start (laid .after-points))
-      (covers-records s kind.Evlr true (o .«number_of_later_records») start (length s) (laid .within) (laid .later)) in
+      (covers-records s (laterKind (o .waveform)) true (o .«number_of_later_records») start (length s) (laid .within) (laid .later)) in
       let before : Covers (o .«header_size») points vlrs = covers-records s kind.Vlr false (o .«number_of_variable_length_records») (o .«header_size») points (laid .after-header) (laid .vlrs) in
       (refl, rw zero-add (covers-both (o .«header_size») points (length s) vlrs (part kind.Points points (pointsEnd o - points) ∷ (gap (pointsEnd o) start ++ later)) before (refl, rw at-end after)))
 
@@ -76,7 +76,7 @@ module _ (o : Outline) (s : List ℕ) (laid : Laid o s) where
   pub first-tells : leftOf s (firstOf (planOf o)) ≡ partsOf o s
   unfolding partsOf bodyOf firstOf planOf leftOf vlrsFrom pointsFrom endFrom laterFrom
   first-tells =
-      let later = tells-records s kind.Evlr true (o .«number_of_later_records») (laterStart o) (length s) [] (laid .later) in
+      let later = tells-records s (laterKind (o .waveform)) true (o .«number_of_later_records») (laterStart o) (length s) [] (laid .later) in
       rw (tells-records s kind.Vlr false (o .«number_of_variable_length_records») (o .«header_size») (o .«offset_to_point_data») _ (laid .vlrs), later, append-nil)
 
 pub covers-up : (from to : ℕ) (ps : List Part) → Covers from to ps → from ≤ to

@@ -22,7 +22,7 @@ use Rattle.cursor.specs.declared.Cursor.{Cursor}
 use Rattle.cursor.specs.declared.Started.{Started}
 use Rattle.cursor.specs.declared.Started.the-variants as started
 use Rattle.cursor.specs.declared.Step.{Step}
-use Rattle.cursor.specs.Parts.{part, gap, between, outlineIn, laterStart}
+use Rattle.cursor.specs.Parts.{part, gap, between, outlineIn, laterKind, laterStart}
 
 -- the numbers of an outline that a cursor goes by
 unfoldable pub planOf : Outline → Plan
@@ -32,6 +32,7 @@ planOf o =
       «number_of_vlrs» = o .«number_of_variable_length_records»;
       points = o .«offset_to_point_data»;
       «end» = pointsEnd o;
+      waveform = o .waveform;
       «start_of_later_records» = laterStart o;
       «number_of_later_records» = o .«number_of_later_records»;
     }
@@ -88,7 +89,7 @@ vlrsStep s c =
 
 unfoldable pub laterStep : List ℕ → Cursor → Step
 laterStep s c =
-    cond (ltb 0 (c .left)) (recordStep s kind.Evlr true (length s) c)
+    cond (ltb 0 (c .left)) (recordStep s (laterKind (c .plan .waveform)) true (length s) c)
     (pastGap (c .at) (length s) (cursor stage.Later (length s) 0 (c .plan)) (ended c))
 
 -- the cursor at the first of the later records
@@ -115,11 +116,11 @@ unfoldable pub recordsFrom : List ℕ → Kind → Bool → ℕ → ℕ → ℕ 
 recordsFrom s kind extended zero at to after = gap at to ++ after
 recordsFrom s kind extended (suc k) at to after = whenBytes (extentOf extended (between at to s)) (λ n. part kind at n ∷ recordsFrom s kind extended k (at + n) to after) []
 
-unfoldable pub laterFrom : List ℕ → ℕ → ℕ → List Part
-laterFrom s left at = recordsFrom s kind.Evlr true left at (length s) []
+unfoldable pub laterFrom : List ℕ → Plan → ℕ → ℕ → List Part
+laterFrom s p left at = recordsFrom s (laterKind (p .waveform)) true left at (length s) []
 
 unfoldable pub endFrom : List ℕ → Plan → ℕ → List Part
-endFrom s p at = gap at (p .«start_of_later_records») ++ laterFrom s (p .«number_of_later_records») (p .«start_of_later_records»)
+endFrom s p at = gap at (p .«start_of_later_records») ++ laterFrom s p (p .«number_of_later_records») (p .«start_of_later_records»)
 
 unfoldable pub pointsFrom : List ℕ → Plan → List Part
 pointsFrom s p = part kind.Points (p .points) (p .«end» - p .points) ∷ endFrom s p (p .«end»)
@@ -132,7 +133,7 @@ leftAt stage.Header s c = part kind.Header 0 (c .plan .«header_size») ∷ vlrs
 leftAt stage.Vlrs s c = vlrsFrom s (c .plan) (c .left) (c .at)
 leftAt stage.Points s c = pointsFrom s (c .plan)
 leftAt stage.Between s c = endFrom s (c .plan) (c .at)
-leftAt stage.Later s c = laterFrom s (c .left) (c .at)
+leftAt stage.Later s c = laterFrom s (c .plan) (c .left) (c .at)
 
 -- All the parts that a cursor has still to tell.
 unfoldable pub leftOf : List ℕ → Cursor → List Part

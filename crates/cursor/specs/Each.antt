@@ -10,9 +10,9 @@ use Rattle.outline.specs.declared.Outline.{Outline}
 use Rattle.extents.specs.Extents.{pointsEnd}
 use Rattle.rules.specs.Records.{Run}
 use Rattle.cursor.specs.declared.Kind.{Kind}
-use Rattle.cursor.specs.declared.Kind.the-variants.{Header, Vlr, Gap, Points, Evlr}
+use Rattle.cursor.specs.declared.Kind.the-variants.{Header, Vlr, Gap, Points, Evlr, Waveform}
 use Rattle.cursor.specs.declared.Part.{Part}
-use Rattle.cursor.specs.Parts.{part, gap, between, recordParts, laterStart, bodyOf, partsOf, Laid, Each}
+use Rattle.cursor.specs.Parts.{part, gap, between, recordParts, laterKind, laterStart, bodyOf, partsOf, Laid, Each}
 use Rattle.cursor.specs.Laws.{drop-between}
 
 -- the header is the first part
@@ -47,9 +47,15 @@ module _ (P : Part → Type 0) where
       each-record k extended one (suc n) at to (here, r) =
           (one at to here, each-record k extended one n _ to (subst (Run extended n) (drop-between _ at to s) r))
 
+      -- so of later records of either kind,
+      records-later : Records Evlr true → Records Waveform true → (waveform : Bool) → Records (laterKind waveform) true
+      unfolding laterKind
+      records-later evlrs packets true = packets
+      records-later evlrs packets false = evlrs
+
       -- and of the points, it is so of each part after the header
-      pub each-part : (o : Outline) → Laid o s → Records Vlr false → Records Evlr true → P (part Points (o .«offset_to_point_data») (pointsEnd o - o .«offset_to_point_data»)) → Each P (bodyOf o s)
+      pub each-part : (o : Outline) → Laid o s → Records Vlr false → Records Evlr true → Records Waveform true → P (part Points (o .«offset_to_point_data») (pointsEnd o - o .«offset_to_point_data»)) → Each P (bodyOf o s)
       unfolding bodyOf
-      each-part o laid vlrs evlrs points =
+      each-part o laid vlrs evlrs packets points =
           each-both (recordParts Vlr false _ _ _ s) _ (each-record Vlr false vlrs (o .«number_of_variable_length_records») (o .«header_size») (o .«offset_to_point_data») (laid .vlrs))
-          (points, each-both (gap (pointsEnd o) (laterStart o)) _ (each-gap (pointsEnd o) (laterStart o)) (each-record Evlr true evlrs (o .«number_of_later_records») (laterStart o) (length s) (laid .later)))
+          (points, each-both (gap (pointsEnd o) (laterStart o)) _ (each-gap (pointsEnd o) (laterStart o)) (each-record (laterKind (o .waveform)) true (records-later evlrs packets (o .waveform)) (o .«number_of_later_records») (laterStart o) (length s) (laid .later)))

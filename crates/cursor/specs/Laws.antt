@@ -23,7 +23,7 @@ use Rattle.cursor.specs.declared.Stage.{Stage}
 use Rattle.cursor.specs.declared.Stage.the-variants as stage
 use Rattle.cursor.specs.declared.Cursor.{Cursor}
 use Rattle.cursor.specs.declared.Step.{Step}
-use Rattle.cursor.specs.Parts.{part, gap, between}
+use Rattle.cursor.specs.Parts.{part, gap, between, laterKind}
 use Rattle.cursor.specs.Cursor.{cursor, told, ended, pastGap, whenBytes, recordStep, pointsStep, vlrsStep, laterStep, atLater, betweenStep, stepOf, recordsFrom, laterFrom, endFrom, pointsFrom, vlrsFrom, leftOf, toldBy}
 
 pub between-short : (from to : ℕ) (s : List ℕ) → length (between from to s) ≤ to - from
@@ -78,12 +78,12 @@ module _ (s : List ℕ) where
   unfolding gap
   no-gap n = rw (le-ltb n n (omega arith))
 
-  at-later : (left at : ℕ) (p : Plan) → laterFrom s left at ≡ toldBy (leftOf s) (laterStep s (cursor stage.Later at left p))
+  at-later : (left at : ℕ) (p : Plan) → laterFrom s p left at ≡ toldBy (leftOf s) (laterStep s (cursor stage.Later at left p))
   unfolding leftOf laterStep laterFrom recordsFrom recordStep
   at-later zero at p = past at (length s) (cursor stage.Later (length s) 0 p) (ended (cursor stage.Later at 0 p)) [] (rw no-gap) refl
   at-later (suc k) at p =
       rw (lt-ltb 0 (suc k) (omega arith))
-      (whole (extentOf true (between at (length s) s)) kind.Evlr at (cursor stage.Later at (suc k) p) (λ n. recordsFrom s kind.Evlr true k (at + n) (length s) [])
+      (whole (extentOf true (between at (length s) s)) (laterKind (p .waveform)) at (cursor stage.Later at (suc k) p) (λ n. recordsFrom s (laterKind (p .waveform)) true k (at + n) (length s) [])
       (λ n. cursor stage.Later (at + n) (suc k - 1) p) (λ n. rw one-less))
 
   at-points : (p : Plan) → pointsFrom s p ≡ toldBy (leftOf s) (pointsStep p)
@@ -100,7 +100,7 @@ module _ (s : List ℕ) where
 
   at-between : (left at : ℕ) (p : Plan) → endFrom s p at ≡ toldBy (leftOf s) (betweenStep s (cursor stage.Between at left p))
   unfolding leftOf endFrom betweenStep
-  at-between left at p = past at (p .«start_of_later_records») (atLater p) (laterStep s (atLater p)) (laterFrom s (p .«number_of_later_records») (p .«start_of_later_records»)) refl (sym (at-later (p .«number_of_later_records») (p .«start_of_later_records») p))
+  at-between left at p = past at (p .«start_of_later_records») (atLater p) (laterStep s (atLater p)) (laterFrom s p (p .«number_of_later_records») (p .«start_of_later_records»)) refl (sym (at-later (p .«number_of_later_records») (p .«start_of_later_records») p))
 
   by-stage : (k : Stage) (at left : ℕ) (p : Plan) → leftOf s (cursor k at left p) ≡ toldBy (leftOf s) (stepOf s (cursor k at left p))
   unfolding leftOf stepOf

@@ -1,4 +1,4 @@
--- The parts of an accepted file, in file order: document 01, "The part table".
+-- The parts of an accepted file, in file order: document 01, "The part table", with document 02's No. 11.
 use Prim.Native.Nat.{ℕ, zero, suc, _+_, _-_, _≤_}
 use mathlib.Core.Path.{_≡_}
 use mathlib.Core.Bool.{Bool, true, false, cond}
@@ -12,7 +12,7 @@ use Rattle.outline.specs.Outline.{outlineOf}
 use Rattle.extents.specs.Extents.{pointsEnd}
 use Rattle.rules.specs.Records.{Run}
 use Rattle.cursor.specs.declared.Kind.{Kind}
-use Rattle.cursor.specs.declared.Kind.the-variants.{Header, Vlr, Gap, Points, Evlr}
+use Rattle.cursor.specs.declared.Kind.the-variants.{Header, Vlr, Gap, Points, Evlr, Waveform}
 use Rattle.cursor.specs.declared.Part.{Part}
 
 -- an entry: "kind, start, length"
@@ -38,6 +38,10 @@ recordParts kind extended (suc k) at to s =
 abbrev pub outlineIn : List ℕ → Outline
 outlineIn s = outlineOf (readOf s .header)
 
+-- what they are: document 02, No. 11, "a part of its own kind, `waveform`"
+unfoldable pub laterKind : Bool → Kind
+laterKind waveform = cond waveform Waveform Evlr
+
 -- where the later records start; without any, the end of the points
 unfoldable pub laterStart : Outline → ℕ
 laterStart o = cond (eqb (o .«number_of_later_records») 0) (pointsEnd o) (o .«start_of_later_records»)
@@ -49,7 +53,7 @@ bodyOf o s =
     recordParts Vlr false (o .«number_of_variable_length_records») (o .«header_size») points s
     ++ (part Points points (pointsEnd o - points) ∷
     (gap (pointsEnd o) (laterStart o)
-    ++ recordParts Evlr true (o .«number_of_later_records») (laterStart o) (length s) s))
+    ++ recordParts (laterKind (o .waveform)) true (o .«number_of_later_records») (laterStart o) (length s) s))
 
 unfoldable pub partsOf : Outline → List ℕ → List Part
 partsOf o s = part Header 0 (o .«header_size») ∷ bodyOf o s

@@ -16,7 +16,7 @@ use Rattle.cursor.specs.declared.Stage.{Stage}
 use Rattle.cursor.specs.declared.Stage.the-variants as stage
 use Rattle.cursor.specs.declared.Cursor.{Cursor}
 use Rattle.cursor.specs.declared.Step.{Step}
-use Rattle.cursor.specs.Parts.{between}
+use Rattle.cursor.specs.Parts.{between, laterKind}
 use Rattle.cursor.specs.Cursor.{cursor, told, ended, pastGap, whenBytes, recordStep, pointsStep, vlrsStep, laterStep, atLater, betweenStep, stepOf}
 
 never : {A : Type 0} → true ≡ false → A
@@ -40,7 +40,7 @@ module _ (s : List ℕ) where
   unfolding laterStep pastGap recordStep stepOf
   still-later at left p =
       let c = cursor stage.Later at left p in
-      still c (ltb 0 left) (ltb at (length s)) (extentOf true (between at (length s) s)) kind.Evlr (λ n. cursor stage.Later (at + n) (left - 1) p) (length s) (cursor stage.Later (length s) 0 p) (ended c)
+      still c (ltb 0 left) (ltb at (length s)) (extentOf true (between at (length s) s)) (laterKind (p .waveform)) (λ n. cursor stage.Later (at + n) (left - 1) p) (length s) (cursor stage.Later (length s) 0 p) (ended c)
       (λ e none. e) refl
 
   still-vlrs : (at left : ℕ) (p : Plan) → Still (vlrsStep s (cursor stage.Vlrs at left p))

@@ -3,7 +3,7 @@
 ghost use mathlib.Core.Path.{_≡_};
 ghost use Prim.Native.Nat.{_<_, _-_};
 ghost use Rattle.extents.specs.Extents.{pointsEnd};
-ghost use Rattle.cursor.specs.Parts.{between, laterStart};
+ghost use Rattle.cursor.specs.Parts.{between, laterKind, laterStart};
 ghost use Rattle.cursor.specs.Cursor.{planOf, firstOf, startedOf, told, ended, recordStep, headerStep, pointsStep, vlrsStep, laterStep, betweenStep, stepOf};
 use header::Header;
 use outline::Outline;
@@ -17,6 +17,7 @@ pub enum Kind {
     Gap,
     Points,
     Evlr,
+    Waveform,
 }
 
 // A part: what it is, its first byte and its bytes.
@@ -33,6 +34,7 @@ pub struct Plan {
     pub number_of_vlrs: u32,
     pub points: u64,
     pub end: u64,
+    pub waveform: bool,
     pub start_of_later_records: u64,
     pub number_of_later_records: u32,
 }
@@ -97,6 +99,7 @@ fn first(o: Outline) -> Cursor
         number_of_vlrs: o.number_of_variable_length_records,
         points,
         end,
+        waveform: o.waveform,
         start_of_later_records: start_of_later_records(o, end),
         number_of_later_records: o.number_of_later_records,
     };
@@ -215,7 +218,8 @@ fn step_later(file: &[u8], c: Cursor) -> Step
 {
     let len = file.len() as u64;
     if c.left > 0 {
-        return step_record(file, Kind::Evlr, true, len, c);
+        let p = c.plan;
+        return step_record(file, later_kind(p.waveform), true, len, c);
     }
     if c.at < len {
         let p = c.plan;
@@ -232,6 +236,16 @@ fn step_later(file: &[u8], c: Cursor) -> Step
         );
     }
     ended(c)
+}
+
+// What the later records are.
+fn later_kind(waveform: bool) -> Kind
+    ensures { λ r. ⌜ r ≡ laterKind waveform ⌝ }
+{
+    if waveform {
+        return Kind::Waveform;
+    }
+    Kind::Evlr
 }
 
 // The record at the cursor, which ends at or before `to`.

@@ -3,7 +3,7 @@ ghost use mathlib.Core.Path.{_≡_};
 ghost use mathlib.Core.List.{_∷_};
 ghost use Rattle.rules.specs.declared.Checked.the-variants as checked;
 ghost use Rattle.rules.specs.Rules.{first};
-ghost use Rattle.extents.specs.Extents.{pointsEnd, pointRule, laterRules, partRules, outlineRules, recordsOf};
+ghost use Rattle.extents.specs.Extents.{pointsEnd, pointRule, startRefusal, laterRules, partRules, outlineRules, recordsOf};
 ghost use Rattle.extents.specs.Steps.{Bounded};
 use outline::Outline;
 use refusal::Refusal;
@@ -57,7 +57,7 @@ fn check_points(file: &[u8], allowance: u64, o: Outline) -> Checked
     check_later(file, allowance, o, offset + count * record_length)
 }
 
-// Rule 8, for points that end at `end`.
+// Rule 8, or the same of the waveform packets, for points that end at `end`.
 fn check_later(file: &[u8], allowance: u64, o: Outline, end: usize) -> Checked
     requires { ⌜ end ≡ pointsEnd o ⌝ }
     ensures { λ r. ⌜ r ≡ first (laterRules allowance o (now (file .entry))) (checked.Accepted (recordsOf o)) ⌝ }
@@ -70,11 +70,21 @@ fn check_later(file: &[u8], allowance: u64, o: Outline, end: usize) -> Checked
         };
     }
     if start < end as u64 {
-        return rules::refused(Refusal::EvlrStart(start), vlrs as u64);
+        return rules::refused(start_refusal(o), vlrs as u64);
     }
     if (file.len() as u64) < start {
-        return rules::refused(Refusal::EvlrStart(start), vlrs as u64);
+        return rules::refused(start_refusal(o), vlrs as u64);
     }
     let rest = &file[start as usize..];
     rules::check_records(rest, true, allowance, vlrs, o.number_of_later_records)
+}
+
+// 14, or 35 for the waveform packets: the later records start before the end of the points or beyond the file.
+fn start_refusal(o: Outline) -> Refusal
+    ensures { λ r. ⌜ r ≡ startRefusal o ⌝ }
+{
+    if o.waveform {
+        return Refusal::WaveformStart;
+    }
+    Refusal::EvlrStart(o.start_of_later_records)
 }

@@ -1,4 +1,4 @@
--- Rules 1 to 8 of document 01 as one conjunction, in ℕ and without an order; that the list of rules says the same.
+-- Rules 1 to 8 of document 01, with document 02's No. 11, as one conjunction, in ℕ and without an order; that the list of rules says the same.
 use Prim.Native.Nat.{ℕ, _+_, _≤_, _<_}
 use mathlib.Core.Path.{_≡_, refl, sym, subst}
 use mathlib.Core.Bool.{Bool, true, false, cond, _||_}
@@ -8,7 +8,6 @@ use native.Mathlib.Omega.{arith}
 use borrow.Author.Tests.{lt-ltb, le-leb, ltb-true, leb-true, eqb-true, eqb-false}
 use lib.Dec.{T, eqb, leb}
 use lib.ListN.{length, drop}
-use Rattle.refusal.specs.declared.Refusal.the-variants.{EvlrStart}
 use Rattle.header.specs.declared.HeaderAnswer.{HeaderAnswer}
 use Rattle.header.specs.declared.HeaderAnswer.the-variants as answer
 use Rattle.header.specs.Layout.{FileSignature, VersionMajor, VersionMinor, HeaderSize, fieldsOf, size}
@@ -19,7 +18,7 @@ use Rattle.header.specs.Minor.{minor-read}
 use Rattle.outline.specs.declared.Outline.{Outline}
 use Rattle.outline.specs.Outline.{outlineOf}
 use Rattle.rules.specs.Rules.{Rule, rule, highestFormat, formatBytes, headerRules, recordRules}
-use Rattle.extents.specs.Extents.{pointsEnd, vlrBytes, vlrRules, pointRule, laterRules, partRules, outlineRules}
+use Rattle.extents.specs.Extents.{pointsEnd, startRefusal, vlrBytes, vlrRules, pointRule, laterRules, partRules, outlineRules}
 use Rattle.file.specs.Rules.{readable, standardSize, rulesOf}
 use Rattle.rules.specs.First.{All, all-append, all-split}
 use Rattle.rules.specs.Records.{Run, records-hold, records-all}
@@ -40,13 +39,13 @@ pub record PartsHold (n minor allowance : ℕ) (o : Outline) (s : List ℕ) : Ty
   -- 5: point offset not below header size, nor beyond the file
   pub offset-after-header : o .«header_size» ≤ o .«offset_to_point_data»
   pub offset-within : o .«offset_to_point_data» ≤ length s
-  -- 6 and 8: an allowance for each VLR and EVLR, one for both kinds
+  -- 6 and 8: an allowance for each record, one for those before the points and after them
   pub allowed : o .«number_of_variable_length_records» + o .«number_of_later_records» ≤ allowance
   -- 6: each VLR ends at or before the point offset
   pub vlrs-whole : Run false (o .«number_of_variable_length_records») (vlrBytes o s)
   -- 7: points end in the file
   pub points-within : pointsEnd o ≤ length s
-  -- 8: EVLRs, if any, start after the points and in the file, and each ends in the file
+  -- 8: EVLRs, or the waveform packets, if any, start after the points and in the file, and each ends in the file
   pub later-start : 0 < o .«number_of_later_records» → (pointsEnd o ≤ o .«start_of_later_records») × (o .«start_of_later_records» ≤ length s)
   pub later-whole : Run true (o .«number_of_later_records») (drop (o .«start_of_later_records») s)
 
@@ -101,7 +100,7 @@ module _ (n minor a : ℕ) (o : Outline) (s : List ℕ) where
   some =
       let vlrs = o .«number_of_variable_length_records» in
       let start = o .«start_of_later_records» in
-      rule (leb (pointsEnd o) start) (EvlrStart start) vlrs ∷ rule (leb start (length s)) (EvlrStart start) vlrs ∷ recordRules true a vlrs (o .«number_of_later_records») (drop start s)
+      rule (leb (pointsEnd o) start) (startRefusal o) vlrs ∷ rule (leb start (length s)) (startRefusal o) vlrs ∷ recordRules true a vlrs (o .«number_of_later_records») (drop start s)
 
   later-hold : o .«number_of_variable_length_records» ≤ a → All (laterRules a o s) → Later
   unfolding laterRules

@@ -1,7 +1,8 @@
--- definitions: the rules in their order, as one conjunction, and the format of the points; the last two with laws of them
+-- definitions: the rules in their order, as one conjunction, the format of the points, and which files have waveform packets; the last three with laws of them
 pub mod Rules
 pub mod Holds
 pub mod Points
+pub mod Waveform
 -- laws
 pub mod Laws
 pub mod Counts

@@ -1,4 +1,4 @@
--- When a file is accepted: document 01, rules 1 to 8, in their order. All sums are exact.
+-- When a file is accepted: document 01, rules 1 to 8, in their order, with document 02's No. 11. All sums are exact.
 use Prim.Native.Nat.{ℕ}
 use mathlib.Core.Bool.{false}
 use mathlib.Core.List.{List, [], _∷_, _++_}

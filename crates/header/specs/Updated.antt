@@ -133,18 +133,20 @@ module _ (a b : List ℕ) (same : (f : Field) → Beside (place f) (width f) →
 -- headers that say the same of their file but for its points
 pub record Alike (g h : Header) : Type 0 where
   pub version : g .version ≡ h .version
+  pub encoding : g .«global_encoding» ≡ h .«global_encoding»
   pub size : g .«header_size» ≡ h .«header_size»
   pub offset : g .«offset_to_point_data» ≡ h .«offset_to_point_data»
   pub vlrs : g .«number_of_variable_length_records» ≡ h .«number_of_variable_length_records»
   pub format : g .«point_data_record_format» ≡ h .«point_data_record_format»
   pub each : g .«point_data_record_length» ≡ h .«point_data_record_length»
+  pub waveform : g .«start_of_waveform_data_packet_record» ≡ h .«start_of_waveform_data_packet_record»
   pub evlr : g .evlr ≡ h .evlr
   pub large : g .«has_large_file» ≡ h .«has_large_file»
 
 module _ (points : ℕ) (by-return bounds : List ℕ) (h : Header) where
   pub updated-alike : Alike (updated points by-return bounds h) h
   unfolding updated
-  updated-alike = record { version = refl; size = refl; offset = refl; vlrs = refl; format = refl; each = refl; evlr = refl; large = refl }
+  updated-alike = record { version = refl; encoding = refl; size = refl; offset = refl; vlrs = refl; format = refl; each = refl; waveform = refl; evlr = refl; large = refl }
 
   pub updated-points : updated points by-return bounds h .«number_of_point_records» ≡ points
   unfolding updated

@@ -75,6 +75,7 @@ fn print_kind(kind: Kind) -> bool {
         Kind::Gap => io::write_all(STDOUT_FILENO, b"gap"),
         Kind::Points => io::write_all(STDOUT_FILENO, b"points"),
         Kind::Evlr => io::write_all(STDOUT_FILENO, b"evlr"),
+        Kind::Waveform => io::write_all(STDOUT_FILENO, b"waveform"),
     }
 }
 

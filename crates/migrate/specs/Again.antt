@@ -23,6 +23,7 @@ use Rattle.pairs.specs.declared.Plan.{Plan}
 use Rattle.judge.specs.declared.Verdict.the-variants as verdict
 use Rattle.header_convert.specs.declared.Goes.the-variants.{Yes}
 use Rattle.header_convert.specs.Turned.{isStart, isPair, beside}
+use Rattle.header_convert.specs.Is.{version-is}
 use Rattle.header_convert.specs.Goes.{goes-up, goes-down}
 use Rattle.header_convert.specs.Told.{new-version, old-version}
 use Rattle.migrate.specs.Migrate.{goesOf, otherOf, extraIn, runVerdict, newFile, newLength}
@@ -68,8 +69,16 @@ module _ (up : Bool) (h : Header) (s : List ℕ) (g : Goer up h s) where
       go start.None (pair.Some k) e = let z : _≡_ {A = ℕ} 0 1 = cc in absurd (omega arith)
       go start.None pair.None e = refl
 
+  -- and the version is none that has waveform packets after the points
+  not-three : h .version .minor ≡ 3 → ⊥
+  not-three three = go up (g .yes)
+    where
+      go : (b : Bool) → goesOf b h ≡ Yes → ⊥
+      go true e = omega (arith, version-is 2 1 3 h (goes-up h e .is))
+      go false e = omega (arith, version-is 4 6 7 h (goes-down h e .is))
+
   pub same-records : recordsOf (outlineOf (otherOf up h)) ≡ recordsOf (outlineOf h)
-  same-records = omega (arith, records-are (outlineOf h), records-are (outlineOf (otherOf up h)), moved up h s g .vlrs, moved up h s g .later, no-evlrs h no-pair .1)
+  same-records = omega (arith, records-are (outlineOf h), records-are (outlineOf (otherOf up h)), moved up h s g .vlrs, moved up h s g .later, no-evlrs h not-three no-pair .1)
 
   module _ {p : Plan} {m : ℕ} (goes : runVerdict up (outlineOf h) s ≡ verdict.Goes p m) where
     abbrev new : List ℕ

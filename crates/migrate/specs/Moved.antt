@@ -25,7 +25,7 @@ use Rattle.file.specs.Points.{pointFormat, format-is, format-long}
 use Rattle.pairs.specs.Pairs.{formatWith}
 use Rattle.header_convert.specs.declared.Goes.the-variants.{Yes}
 use Rattle.header_convert.specs.Turned.{newCode, oldCode, newHeader, oldHeader}
-use Rattle.header_convert.specs.Told.{new-placed, old-placed}
+use Rattle.header_convert.specs.Told.{new-version, old-version, new-placed, old-placed}
 use Rattle.header_convert.specs.Is as is
 use Rattle.header_convert.specs.Goes.{GoesUp, GoesDown, goes-up, goes-down}
 use Rattle.migrate.specs.Migrate.{goesOf, otherOf, extraIn, newLength}
@@ -65,7 +65,7 @@ moved-up h g legacy =
       format = rw (code-is h, code-is (newHeader h) ∙ p .code) (up-way _ (is.format-is 2 1 3 h (g .is)));
       vlrs = vlrs-is (newHeader h) ∙ p .vlrs ∙ sym (vlrs-is h);
       count = count-is (newHeader h) ∙ p .count ∙ legacy ∙ sym (count-is h);
-      later = no-evlrs (newHeader h) (p .evlr) .1;
+      later = no-evlrs (newHeader h) (λ three. omega (arith, new-version h .1)) (p .evlr) .1;
     }
 
 moved-down : (h : Header) → GoesDown h → Moved false (outlineOf h) (outlineOf (oldHeader h))
@@ -78,7 +78,7 @@ moved-down h g =
       format = rw (code-is h, code-is (oldHeader h) ∙ p .code) (down-way _ (is.format-is 4 6 7 h (g .is)));
       vlrs = vlrs-is (oldHeader h) ∙ p .vlrs ∙ sym (vlrs-is h);
       count = count-is (oldHeader h) ∙ p .count ∙ sym (count-is h);
-      later = no-evlrs (oldHeader h) (p .evlr) .1;
+      later = no-evlrs (oldHeader h) (λ three. omega (arith, old-version h .1)) (p .evlr) .1;
     }
 
 -- the points of an accepted file are of the format of their code, and each has the record length

@@ -1,6 +1,6 @@
 -- What filling a part table answers and leaves.
 use Prim.Native.Nat.{ℕ}
-use mathlib.Core.Bool.{cond}
+use mathlib.Core.Bool.{false, cond}
 use mathlib.Core.List.{List, _++_}
 use lib.Dec.{leb, ltb}
 use lib.ListN.{length, drop}
@@ -34,7 +34,7 @@ abbrev pub nothing : Refusal → ℕ → Cursor → Filling
 nothing r k c = record { answer = tabled.Refused r k; entries = 0; cursor = c }
 
 abbrev pub nowhere : Cursor
-nowhere = cursor stage.Later 0 0 (record { «header_size» = 0; «number_of_vlrs» = 0; points = 0; «end» = 0; «start_of_later_records» = 0; «number_of_later_records» = 0 })
+nowhere = cursor stage.Later 0 0 (record { «header_size» = 0; «number_of_vlrs» = 0; points = 0; «end» = 0; waveform = false; «start_of_later_records» = 0; «number_of_later_records» = 0 })
 
 abbrev pub fillingBy : Started → List ℕ → ℕ → Filling
 fillingBy (started.At c) s room =

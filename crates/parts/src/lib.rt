@@ -97,6 +97,7 @@ fn nowhere() -> Cursor
             number_of_vlrs: 0,
             points: 0,
             end: 0,
+            waveform: false,
             start_of_later_records: 0,
             number_of_later_records: 0,
         },

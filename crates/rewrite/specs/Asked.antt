@@ -15,10 +15,10 @@ use Rattle.outline.specs.declared.Outline.{Outline}
 use Rattle.file.specs.Points.{pointFormat}
 use Rattle.cursor.specs.declared.Part.{Part}
 use Rattle.cursor.specs.declared.Kind.{Kind}
-use Rattle.cursor.specs.declared.Kind.the-variants.{Header, Vlr, Gap, Points, Evlr}
+use Rattle.cursor.specs.declared.Kind.the-variants.{Header, Vlr, Gap, Points, Evlr, Waveform}
 use Rattle.cursor.specs.Parts.{Covers, Each, bytesOf}
 
--- a header with its padding; a VLR or an EVLR with its data
+-- a header with its padding; a record with its data, a VLR or one with a long head
 abbrev pub HeaderPart : List ℕ → Type 0
 HeaderPart s = (n : ℕ) × (judged s ≡ Whole n (length s))
 
@@ -39,6 +39,7 @@ PartIs o Vlr s = VlrPart false s
 PartIs o Gap s = Unit
 PartIs o Points s = PointsPart (pointFormat o) (o .«point_data_record_length») (o .«number_of_point_records») s
 PartIs o Evlr s = VlrPart true s
+PartIs o Waveform s = VlrPart true s
 
 -- a part that is one of its kind
 abbrev pub IsWhole : Outline → List ℕ → Part → Type 0

@@ -17,13 +17,13 @@ use Rattle.header_write.specs.Bytes.{block}
 use Rattle.outline.specs.declared.Outline.{Outline}
 use Rattle.file.specs.Points.{pointFormat}
 use Rattle.cursor.specs.declared.Kind.{Kind}
-use Rattle.cursor.specs.declared.Kind.the-variants.{Header, Vlr, Gap, Points, Evlr}
+use Rattle.cursor.specs.declared.Kind.the-variants.{Header, Vlr, Gap, Points, Evlr, Waveform}
 
 -- the header that is read, and its padding
 unfoldable pub headerBack : List ℕ → List ℕ
 headerBack s = block (header.readOf s .header) ++ paddingOf s
 
--- the head that is read of a VLR or an EVLR, and its data
+-- the head that is read of a VLR, or of an EVLR or the waveform packets, and its data
 unfoldable pub vlrBack : Bool → List ℕ → List ℕ
 vlrBack extended s = headBytes (vlr.readOf extended s .vlr) ++ dataOf extended s
 
@@ -47,3 +47,4 @@ partBack o Vlr s = vlrBack false s
 partBack o Gap s = s
 partBack o Points s = pointsBack (pointFormat o) (o .«point_data_record_length») (o .«number_of_point_records») s
 partBack o Evlr s = vlrBack true s
+partBack o Waveform s = vlrBack true s

@@ -61,8 +61,8 @@ module _ (allowance : ℕ) (s : List ℕ) {n : ℕ} (p : checkedOf allowance s �
       let points = o .«offset_to_point_data» in
       let long = length-take-le (pointsEnd o - points) (drop points s) (simp length-drop (omega (arith, h .parts .points-within))) in (
         covered o s (laid allowance s p),
-        rw header-first (header-whole allowance s h, each-part (IsWhole o s) (λ from to. tt) s o (laid allowance s p) (record-cut s false) (record-cut s true) (format-len allowance s h bytes, omega (arith, long))),
+        rw header-first (header-whole allowance s h, each-part (IsWhole o s) (λ from to. tt) s o (laid allowance s p) (record-cut s false) (record-cut s true) (record-cut s true) (format-len allowance s h bytes, omega (arith, long))),
       )
 
   pub no-header-after : Each NoHeader (bodyOf (outlineIn s) s)
-  no-header-after = each-part NoHeader (λ from to. refl) s (outlineIn s) (laid allowance s p) (λ at to whole. refl) (λ at to whole. refl) refl
+  no-header-after = each-part NoHeader (λ from to. refl) s (outlineIn s) (laid allowance s p) (λ at to whole. refl) (λ at to whole. refl) (λ at to whole. refl) refl

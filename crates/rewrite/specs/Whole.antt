@@ -12,7 +12,7 @@ use Rattle.le.specs.Laws.{bytes-take, bytes-drop}
 use Rattle.outline.specs.declared.Outline.{Outline}
 use Rattle.cursor.specs.declared.Part.{Part}
 use Rattle.cursor.specs.declared.Kind.{Kind}
-use Rattle.cursor.specs.declared.Kind.the-variants.{Header, Vlr, Gap, Points, Evlr}
+use Rattle.cursor.specs.declared.Kind.the-variants.{Header, Vlr, Gap, Points, Evlr, Waveform}
 use Rattle.rewrite.specs.Back.{headerBack, partBack}
 use Rattle.rewrite.specs.Laws.{part-same, vlr-same}
 use Rattle.rewrite.specs.Pair.{length-header}
@@ -27,6 +27,7 @@ isHeader Vlr = false
 isHeader Gap = false
 isHeader Points = false
 isHeader Evlr = false
+isHeader Waveform = false
 
 abbrev pub NoHeader : Part → Type 0
 NoHeader p = isHeader (p .kind) ≡ false
@@ -40,6 +41,7 @@ module _ (o : Outline) where
   body-same Gap t whole bytes body = refl
   body-same Points t whole bytes body = part-same _ _ _ t whole bytes
   body-same Evlr t whole bytes body = vlr-same true t whole bytes
+  body-same Waveform t whole bytes body = vlr-same true t whole bytes
 
   -- and what stands for any has its length
   pub part-length : (k : Kind) (t : List ℕ) → PartIs o k t → Bytes t → length (partBack o k t) ≡ length t
@@ -49,6 +51,7 @@ module _ (o : Outline) where
   part-length Gap t whole bytes = refl
   part-length Points t whole bytes = ap length (part-same _ _ _ t whole bytes)
   part-length Evlr t whole bytes = ap length (vlr-same true t whole bytes)
+  part-length Waveform t whole bytes = ap length (vlr-same true t whole bytes)
 
   module _ (s : List ℕ) (bytes : Bytes s) where
     pub bytes-part : (p : Part) → Bytes (bytesOf s p)

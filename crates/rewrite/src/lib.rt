@@ -82,6 +82,7 @@ fn rewrite_part(kind: Kind, src: &[u8], o: Outline, dst: &mut [u8])
             rewrite_points(src, file::point_format(o), record_length, count, dst)
         }
         Kind::Evlr => rewrite_vlr(src, true, dst),
+        Kind::Waveform => rewrite_vlr(src, true, dst),
     }
 }
 
@@ -102,7 +103,7 @@ fn rewrite_header(src: &[u8], dst: &mut [u8])
     header_write::write_to(header, header::padding(src), dst);
 }
 
-// A VLR, or an EVLR, and its data, written from what their readers answer.
+// A VLR, or an EVLR or the waveform packets, and its data, written from what their readers answer.
 fn rewrite_vlr(src: &[u8], extended: bool, dst: &mut [u8])
     requires { ⌜ VlrPart extended (now src) × (length (now src) ≤ length (now dst)) ⌝ }
     ensures { λ _. ⌜ now (dst .exit) ≡ vlrBack extended (now (src .entry)) ++ drop (length (now (src .entry))) (now (dst .entry)) ⌝ }

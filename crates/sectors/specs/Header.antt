@@ -148,4 +148,4 @@ module _ (s : List ℕ) {n e : ℕ} (p : judged s ≡ Whole n e) (two : readOf s
   count-12-fits bytes = rw count-12 (num-lt 4 s (place LegacyNumberOfPointRecords) bytes)
 
   pub none-after-12 : (outlineOf (readOf s .header) .«start_of_later_records» ≡ 0) × (outlineOf (readOf s .header) .«number_of_later_records» ≡ 0)
-  none-after-12 = no-evlrs (readOf s .header) (no-evlr s p (omega arith))
+  none-after-12 = no-evlrs (readOf s .header) (λ three. omega arith) (no-evlr s p (omega arith))

@@ -11,6 +11,6 @@ unfolding laterStep
 step-later-spec =
     tie.close
     (tie.spec
-    (λ c κs. search needs) (λ c. rw (lt-ltb _ _ (c .before .if1 .taken)) (c .step-record .ensures)) (λ c. search needs)
+    (λ c κs. search needs) (λ c κs. search needs) (λ c. let k = c .before in rw (lt-ltb _ _ (k .before .before .if1 .taken), ← (k .later-kind .ensures)) (c .step-record .ensures)) (λ c. search needs)
     (λ c κs. search needs) (λ c. let gap = c .before .before .before in rw (le-ltb _ _ (gap .before .before .if1 .left)) (c .told .ensures ∙ sym (gap-told _ _ _ _ (gap .if2 .taken))))
     (λ c κs. search needs) (λ c. rw (le-ltb _ _ (c .before .before .before .if1 .left)) (c .ended .ensures ∙ sym (gap-passed _ _ _ _ (c .before .if2 .left)))))

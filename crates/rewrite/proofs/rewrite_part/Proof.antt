@@ -17,6 +17,10 @@ rewrite-vlr-requires-2 : tie.Need-rewrite-vlr-requires-2
 unfolding PartIs
 rewrite-vlr-requires-2 c κs = let k = c .before in let s = k .before .before .before .before in (rw (k .enum-told5 .given .1) at (s .pre .0), s .pre .1)
 
+rewrite-vlr-requires-3 : tie.Need-rewrite-vlr-requires-3
+unfolding PartIs
+rewrite-vlr-requires-3 c κs = let k = c .before in let s = k .before .before .before .before in (rw (k .enum-told6 .given .1) at (s .pre .0), s .pre .1)
+
 rewrite-points-requires : tie.Need-rewrite-points-requires
 unfolding PartIs
 rewrite-points-requires c κs =
@@ -49,10 +53,14 @@ returns-5 : tie.Need-returns-5
 unfolding partBack
 returns-5 c = let done = c .before .before in rw (done .before .before .enum-told5 .given .1) (done .rewrite-vlr2 .ensures)
 
+returns-6 : tie.Need-returns-6
+unfolding partBack
+returns-6 c = let done = c .before .before in rw (done .before .before .enum-told6 .given .1) (done .rewrite-vlr3 .ensures)
+
 pub rewrite-part-spec : {M : Type 1} → statement M
 rewrite-part-spec =
     tie.close
     (tie.spec
     (λ c. search needs) rewrite-header-requires (λ c. search needs) rewrite-vlr-requires (λ c. search needs) (λ c κs. search needs) (λ c. search needs) (λ c. search needs)
-    (λ c κs. search needs) rewrite-points-requires (λ c. search needs) rewrite-vlr-requires-2 (λ c. search needs) returns (λ c. search needs) returns-2 (λ c. search needs)
-    returns-3 (λ c. search needs) returns-4 (λ c. search needs) returns-5)
+    (λ c κs. search needs) rewrite-points-requires (λ c. search needs) rewrite-vlr-requires-2 (λ c. search needs) rewrite-vlr-requires-3 (λ c. search needs) returns (λ c. search needs) returns-2 (λ c. search needs)
+    returns-3 (λ c. search needs) returns-4 (λ c. search needs) returns-5 (λ c. search needs) returns-6)
