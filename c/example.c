@@ -34,7 +34,7 @@ int main(int argc, char **argv) {
     }
 
     /* The file check, and then the parts in their order. */
-    static const char *const kinds[] = {"header", "vlr", "gap", "points", "evlr"};
+    static const char *const kinds[] = {"header", "vlr", "gap", "points", "evlr", "waveform"};
     uint64_t row[3], cursor[LAS_CURSOR_NUMBERS], part[LAS_ENTRY_NUMBERS];
     las_cursor_start(file, len, UINT64_MAX, cursor, row);
     if (row[LAS_ROW_NUMBER] != LAS_OK) {

@@ -63,6 +63,31 @@ size_t make_file(uint8_t *dst, size_t dst_len) {
     return 631; /* 559, an EVLR of 65 and a gap of 7 */
 }
 
+/* A 1.3 file with a VLR, a point of format 1, and the waveform packets in it, with gaps around them. */
+static size_t make_waveforms(uint8_t *dst, size_t dst_len) {
+    static const uint8_t data[8] = "packets", text[32] = "LASF_Spec";
+    const uint64_t vlr[LAS_VLR_NUMBERS] = {0, 100, 5}, packets[LAS_VLR_NUMBERS] = {0, 65535, 8};
+    uint64_t row[3], numbers[LAS_HEADER_NUMBERS], point[LAS_POINT_NUMBERS];
+    memset(dst, 0xB0, dst_len);
+
+    new_header(numbers, 3, 1);
+    numbers[LAS_HEADER_GLOBAL_ENCODING] = 2; /* waveforms inside the file */
+    numbers[LAS_HEADER_NUMBER_OF_VLRS] = 1;
+    numbers[LAS_HEADER_POINT_OFFSET] = 294; /* 235 and a VLR of 59 */
+    numbers[LAS_HEADER_LEGACY_POINTS] = 1;
+    numbers[LAS_HEADER_HAS_WAVEFORM_START] = 1;
+    numbers[LAS_HEADER_WAVEFORM_START] = 326; /* 294, a point of 28 and a gap of 4 */
+    las_header_write(numbers, guid, system_identifier, software, nothing, 0, dst, dst_len, row);
+    CHECK(told(row, LAS_OK, 235, 0));
+    las_vlr_write(false, vlr, text, text, data, 5, dst + 235, dst_len - 235, row);
+    memset(point, 0, sizeof point);
+    las_point_write(point, nothing, 0, LAS_FORMAT_TIME, dst + 294, dst_len - 294, row);
+    CHECK(told(row, LAS_OK, 28, 0));
+    las_vlr_write(true, packets, text, text, data, 8, dst + 326, dst_len - 326, row);
+    CHECK(told(row, LAS_OK, 68, 0));
+    return 397; /* 326, a record of 68 and a gap of 3 */
+}
+
 /* Whether the row of a file check has these numbers; it is then filled. */
 static bool judged(uint64_t row[4], uint64_t number, uint64_t value, uint64_t record, uint64_t whole) {
     bool same = row[LAS_ROW_WHOLE] == whole;
@@ -194,7 +219,8 @@ static void test_cursor(void) {
     CHECK(cursor[LAS_CURSOR_STAGE] == 0 && cursor[LAS_CURSOR_AT] == 0 && cursor[LAS_CURSOR_LEFT] == 0);
     CHECK(cursor[LAS_CURSOR_HEADER_SIZE] == 378 && cursor[LAS_CURSOR_NUMBER_OF_VLRS] == 1);
     CHECK(cursor[LAS_CURSOR_POINT_OFFSET] == 440 && cursor[LAS_CURSOR_END_OF_POINTS] == 554);
-    CHECK(cursor[LAS_CURSOR_EVLR_START] == 559 && cursor[LAS_CURSOR_NUMBER_OF_EVLRS] == 1);
+    CHECK(cursor[LAS_CURSOR_LATER_START] == 559 && cursor[LAS_CURSOR_NUMBER_OF_LATER] == 1);
+    CHECK(cursor[LAS_CURSOR_IS_WAVEFORM] == 0);
     uint64_t part[LAS_ENTRY_NUMBERS];
     for (size_t i = 0; i < 7; i++) {
         fill_numbers(part, LAS_ENTRY_NUMBERS);
@@ -325,8 +351,67 @@ static void test_file_rewrite(void) {
     CHECK(number_at(dst + 243, 4) == 0 && memcmp(dst + 247, file + 247, len - 247) == 0);
 }
 
+/* In 1.3, with bit 1 of global encoding and a start, the waveform packets are a part of their own kind. */
+static void test_waveforms(void) {
+    uint64_t row[4], table[6 * LAS_ENTRY_NUMBERS], cursor[LAS_CURSOR_NUMBERS], part[LAS_ENTRY_NUMBERS];
+    static uint8_t file[500], dst[500];
+    size_t len = make_waveforms(file, sizeof file);
+    fill_numbers(row, 4);
+
+    /* they are a record, after the VLRs */
+    las_file_check(file, len, 2, row);
+    CHECK(judged(row, LAS_OK, 0, 0, 2));
+    las_file_check(file, len, 1, row);
+    CHECK(judged(row, LAS_REFUSED_ALLOWANCE, 1, 2, 1));
+    las_file_check(file, 393, 2, row);
+    CHECK(judged(row, LAS_REFUSED_EVLR_EXTENT, 8, 2, 1));
+    las_file_check(file, 385, 2, row);
+    CHECK(judged(row, LAS_REFUSED_EVLR_EXTENT, 0, 2, 1));
+
+    /* and a part: by the table, the cursor and rewriting */
+    las_file_parts(file, len, 2, table, sizeof table / sizeof *table, row);
+    CHECK(told(row, LAS_OK, 6, 0));
+    CHECK(entry(table, 0, LAS_PART_HEADER, 0, 235) && entry(table, 1, LAS_PART_VLR, 235, 59));
+    CHECK(entry(table, 2, LAS_PART_POINTS, 294, 28) && entry(table, 3, LAS_PART_GAP, 322, 4));
+    CHECK(entry(table, 4, LAS_PART_WAVEFORM, 326, 68) && entry(table, 5, LAS_PART_GAP, 394, 3));
+    las_cursor_start(file, len, 2, cursor, row);
+    CHECK(cursor[LAS_CURSOR_LATER_START] == 326 && cursor[LAS_CURSOR_NUMBER_OF_LATER] == 1);
+    CHECK(cursor[LAS_CURSOR_IS_WAVEFORM] == 1);
+    for (size_t i = 0; i < 6; i++) {
+        CHECK(las_cursor_next(file, len, cursor, part));
+        CHECK(memcmp(part, table + LAS_ENTRY_NUMBERS * i, sizeof part) == 0);
+    }
+    CHECK(!las_cursor_next(file, len, cursor, part));
+    las_file_rewrite(file, len, 2, dst, sizeof dst, row);
+    CHECK(told(row, LAS_OK, len, 0) && memcmp(dst, file, len) == 0);
+
+    /* a start inside the points, and beyond the file */
+    file[227] = 321 % 256;
+    las_file_check(file, len, 2, row);
+    CHECK(judged(row, LAS_REFUSED_WAVEFORM_START, 0, 0, 1));
+    file[227] = 398 % 256;
+    las_file_check(file, len, 2, row);
+    CHECK(judged(row, LAS_REFUSED_WAVEFORM_START, 0, 0, 1));
+
+    /* without the bit, with bit 2, or in another version such a start says nothing */
+    for (uint8_t encoding = 0; encoding <= 5; encoding++) {
+        file[6] = encoding;
+        las_file_check(file, len, 1, row);
+        if (encoding == 2 || encoding == 3) {
+            CHECK(judged(row, LAS_REFUSED_WAVEFORM_START, 0, 0, 1));
+        } else {
+            CHECK(judged(row, LAS_OK, 0, 0, 1));
+        }
+    }
+    file[6] = 2;
+    file[25] = 2;
+    las_file_check(file, len, 1, row);
+    CHECK(judged(row, LAS_OK, 0, 0, 1));
+}
+
 void test_files(void) {
     test_file_check();
+    test_waveforms();
     test_file_parts();
     test_cursor();
     test_file_walker();

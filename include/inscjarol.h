@@ -33,8 +33,10 @@
  * A walker's place, a cursor and a sweep are numbers that the caller keeps from call to call. Every number in them means
  * something, so that one made by hand is taken too.
  *
- * The numbers and rules are those of LAS 1.4 R15. "Allowance" is how many VLRs and EVLRs a call may go through before it
- * refuses, to bound its time on hostile files; UINT64_MAX takes every file.
+ * The numbers and rules are those of LAS 1.4 R15. "Records" of a file are its VLRs and, after the points, its EVLRs or its
+ * waveform packets. These are one record with the head of an EVLR, in LAS 1.3 where bit 1 of global encoding is set and the
+ * waveform start isn't 0. "Allowance" is how many records a call may go through before it refuses, to bound its time on
+ * hostile files; UINT64_MAX takes every file.
  */
 #ifndef INSCJAROL_H
 #define INSCJAROL_H
@@ -72,7 +74,7 @@ enum {
     LAS_REFUSED_ALLOWANCE = 10,         /* the allowance */
     LAS_REFUSED_VLR_EXTENT = 11,        /* the length field, 0 if the record's head ends too late */
     LAS_REFUSED_POINT_EXTENT = 12,      /* the count of points */
-    LAS_REFUSED_EVLR_EXTENT = 13,       /* the length field, 0 if the record's head ends too late */
+    LAS_REFUSED_EVLR_EXTENT = 13,       /* the length field, 0 if the record's head ends too late; so of waveform packets */
     LAS_REFUSED_EVLR_START = 14,        /* the field */
     LAS_REFUSED_RETURN_NUMBER = 15,     /* the return number */
     LAS_REFUSED_NUMBER_OF_RETURNS = 16, /* the number of returns */
@@ -93,7 +95,8 @@ enum {
     LAS_REFUSED_COUNT_TOO_LARGE = 31,
     LAS_REFUSED_OTHER_VERSION_OR_FORMAT = 32,
     LAS_REFUSED_EVLRS_OR_WAVEFORMS = 33,
-    LAS_REFUSED_COUNTS_TOO_LARGE_FOR_OLD = 34
+    LAS_REFUSED_COUNTS_TOO_LARGE_FOR_OLD = 34,
+    LAS_REFUSED_WAVEFORM_START = 35
 };
 
 /* Some of the caller's bytes, as two numbers: where they start in the slice that was lent, and how many there are. Where there
@@ -434,22 +437,24 @@ enum {
     LAS_PART_VLR = 1,
     LAS_PART_GAP = 2, /* bytes between parts or after the last, never none */
     LAS_PART_POINTS = 3,
-    LAS_PART_EVLR = 4
+    LAS_PART_EVLR = 4,
+    LAS_PART_WAVEFORM = 5 /* the waveform packets, with their head; a later version may know more kinds */
 };
 
 /* The places of the numbers of a cursor over the parts, which the caller keeps between calls. */
 enum {
     LAS_CURSOR_STAGE = 0, /* what is next: 0 the header, 1 a VLR or the gap after them, 2 the points, 3 the gap after them,
-                             4 an EVLR or the gap after them; above 4 is 4 */
+                             4 a later record or the gap after them; above 4 is 4 */
     LAS_CURSOR_AT = 1,    /* the first byte that is next */
-    LAS_CURSOR_LEFT = 2,  /* how many VLRs or EVLRs are left of the stage */
+    LAS_CURSOR_LEFT = 2,  /* how many records are left of the stage */
     LAS_CURSOR_HEADER_SIZE = 3,
     LAS_CURSOR_NUMBER_OF_VLRS = 4,
     LAS_CURSOR_POINT_OFFSET = 5,
     LAS_CURSOR_END_OF_POINTS = 6,
-    LAS_CURSOR_EVLR_START = 7, /* the end of the points where there are no EVLRs */
-    LAS_CURSOR_NUMBER_OF_EVLRS = 8,
-    LAS_CURSOR_NUMBERS = 9
+    LAS_CURSOR_LATER_START = 7, /* of the later records, those after the points; the end of the points where there are none */
+    LAS_CURSOR_NUMBER_OF_LATER = 8,
+    LAS_CURSOR_IS_WAVEFORM = 9, /* whether the later record is the waveform packets; any number but 0 says so */
+    LAS_CURSOR_NUMBERS = 10
 };
 
 /* The places of the numbers of a walker's place, which the caller keeps between calls. */
@@ -464,13 +469,13 @@ enum {
     LAS_PLACE_NUMBERS = 7
 };
 
-/* Whether the file is accepted; and in row[LAS_ROW_WHOLE], accepted or refused, how many VLRs and EVLRs were found whole.
+/* Whether the file is accepted; and in row[LAS_ROW_WHOLE], accepted or refused, how many records were found whole.
  * The value of an accepted file is 0. Refuses as las_header_read does, then with LAS_REFUSED_HEADER_SIZE below the
  * version's; LAS_REFUSED_FORMAT, LAS_REFUSED_COMPRESSED, LAS_REFUSED_FORMAT_FOR_VERSION; LAS_REFUSED_RECORD_LENGTH below
  * the format's; LAS_REFUSED_POINT_OFFSET before the header's end or beyond the file; for each VLR LAS_REFUSED_ALLOWANCE,
- * then LAS_REFUSED_VLR_EXTENT past the point offset; LAS_REFUSED_POINT_EXTENT beyond the file; LAS_REFUSED_EVLR_START before
- * the end of the points or beyond the file; and for each EVLR LAS_REFUSED_ALLOWANCE, then LAS_REFUSED_EVLR_EXTENT beyond
- * the file. The record number is that of the VLR or EVLR, counted through both kinds. */
+ * then LAS_REFUSED_VLR_EXTENT past the point offset; LAS_REFUSED_POINT_EXTENT beyond the file; LAS_REFUSED_EVLR_START, or
+ * LAS_REFUSED_WAVEFORM_START, before the end of the points or beyond the file; and for each EVLR, or the waveform packets,
+ * LAS_REFUSED_ALLOWANCE, then LAS_REFUSED_EVLR_EXTENT beyond the file. The record number is counted through all kinds. */
 void las_file_check(const uint8_t *file, size_t file_len, uint64_t allowance, uint64_t row[4]);
 
 /* The parts of the file in its order to the front of the table, LAS_ENTRY_NUMBERS numbers each, what lies past them staying;
@@ -481,11 +486,11 @@ void las_file_parts(const uint8_t *file, size_t file_len, uint64_t allowance, ui
 
 /* The cursor before the first part of the file, for las_cursor_next to tell the parts one by one, without a table; the value
  * is 0. Refuses as las_file_check does, and leaves the cursor. */
-void las_cursor_start(const uint8_t *file, size_t file_len, uint64_t allowance, uint64_t cursor[9], uint64_t row[3]);
+void las_cursor_start(const uint8_t *file, size_t file_len, uint64_t allowance, uint64_t cursor[10], uint64_t row[3]);
 
 /* Whether there is a part at the cursor: then entry has its LAS_ENTRY_NUMBERS numbers, and the cursor moves on; else, after
- * the last part, and at a VLR or EVLR that is not all there, both stay as they are. */
-bool las_cursor_next(const uint8_t *file, size_t file_len, uint64_t cursor[9], uint64_t entry[3]);
+ * the last part, and at a record that is not all there, both stay as they are. */
+bool las_cursor_next(const uint8_t *file, size_t file_len, uint64_t cursor[10], uint64_t entry[3]);
 
 /* The place of a walker before the first point of the file; where las_file_check refuses the file, a place that holds the
  * refusal. */

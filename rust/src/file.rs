@@ -11,7 +11,7 @@ use crate::{
 };
 use std::{fmt, iter::FusedIterator};
 
-/// An allowance of VLRs and EVLRs that no file of this many bytes can spend: each takes 54 bytes or more.
+/// An allowance of records, as VLRs and EVLRs are, that no file of this many bytes can spend: each takes 54 bytes or more.
 pub fn allowance_for(bytes: usize) -> u64 {
     bytes as u64 / 54
 }
@@ -21,7 +21,7 @@ pub fn allowance_for(bytes: usize) -> u64 {
 pub struct Checked {
     /// Why the file is no LAS file, if it is none.
     pub answer: Result<(), Refusal>,
-    /// How many VLRs and EVLRs were found whole, up to the refusal if there is one.
+    /// How many records, VLRs, EVLRs and waveform packets, were found whole, up to the refusal if there is one.
     pub records: u64,
 }
 
@@ -39,8 +39,8 @@ pub struct File<'a> {
 impl<'a> File<'a> {
     /// The file that these bytes are, or the first of the rules that they break.
     ///
-    /// This looks at the header and at the head of each VLR and EVLR, not at the points: it takes as long for a large file
-    /// as for a small one.
+    /// This looks at the header and at the head of each record, not at the points: it takes as long for a large file as for
+    /// a small one.
     ///
     /// ```
     /// # let header = inscjarol::Header::new(inscjarol::Version { major: 1, minor: 2 })?;
@@ -58,7 +58,7 @@ impl<'a> File<'a> {
         File::check_within(bytes, allowance_for(bytes.len()))
     }
 
-    /// The same with an allowance of VLRs and EVLRs: one more than that is refused with 10, so that the time is bounded.
+    /// The same with an allowance of records: one more than that is refused with 10, so that the time is bounded.
     pub fn check_within(bytes: &'a [u8], allowance: u64) -> Result<File<'a>, Refusal> {
         // The one check, whose refusal the place holds; so the points need no other.
         let place = sys::file_walker(bytes, allowance)?;
@@ -97,16 +97,11 @@ impl<'a> File<'a> {
         self.format
     }
 
-    /// How many VLRs and EVLRs there are, both kinds together.
+    /// How many records there are: VLRs, EVLRs and waveform packets together.
     pub fn records(&self) -> u64 {
-        let vlrs = u64::from(self.header.number_of_variable_length_records);
-        vlrs.saturating_add(self.evlr_count())
-    }
-
-    /// How many EVLRs there are.
-    fn evlr_count(&self) -> u64 {
-        let evlrs = self.header.evlrs;
-        evlrs.map_or(0, |evlrs| u64::from(evlrs.number_of_evlrs))
+        let parts = self.parts();
+        let kinds = [PartKind::Vlr, PartKind::Evlr, PartKind::Waveform];
+        kinds.iter().map(|kind| parts.records_of(*kind)).sum()
     }
 
     /// How many points there are: the legacy count if it isn't 0, else the large count.
@@ -114,8 +109,8 @@ impl<'a> File<'a> {
         sys::header_points(self.bytes).unwrap_or(0)
     }
 
-    /// The parts of the file in their order: header, VLRs, points, EVLRs, and the gaps between and after them. They cover
-    /// the file, byte after byte.
+    /// The parts of the file in their order: header, VLRs, points, EVLRs or waveform packets, and the gaps between and after
+    /// them. They cover the file, byte after byte.
     pub fn parts(&self) -> Parts<'a> {
         Parts {
             file: self.bytes,
@@ -138,22 +133,29 @@ impl<'a> File<'a> {
     /// # Ok::<(), Box<dyn std::error::Error>>(())
     /// ```
     pub fn vlrs(&self) -> Vlrs<'a> {
-        let count = u64::from(self.header.number_of_variable_length_records);
-        self.records_of(PartKind::Vlr, count)
+        self.records_of(PartKind::Vlr)
     }
 
     /// The EVLRs, which stand after the points.
     pub fn evlrs(&self) -> Vlrs<'a> {
-        self.records_of(PartKind::Evlr, self.evlr_count())
+        self.records_of(PartKind::Evlr)
     }
 
-    /// The records of a kind, of which there are this many.
-    fn records_of(&self, kind: PartKind, count: u64) -> Vlrs<'a> {
+    /// The waveform packets, which stand after the points as one record with the head of an EVLR: in LAS 1.3, where bit 1 of
+    /// the global encoding is set and the header has a waveform start that isn't 0. In any other file the header's word on
+    /// waveforms is not looked at, and what it speaks of is a gap or lies elsewhere.
+    pub fn waveform_packets(&self) -> Option<Vlr<'a>> {
+        self.records_of(PartKind::Waveform).next()
+    }
+
+    /// The records of a kind.
+    fn records_of(&self, kind: PartKind) -> Vlrs<'a> {
+        let parts = self.parts();
         Vlrs {
             file: self.bytes,
-            parts: self.parts(),
+            left: sys::in_memory(parts.records_of(kind)),
+            parts,
             kind,
-            left: sys::in_memory(count),
         }
     }
 
@@ -304,7 +306,7 @@ impl<'a> File<'a> {
 /// let mut of_records = 0;
 /// for part in file.parts() {
 ///     match part.kind {
-///         PartKind::Vlr | PartKind::Evlr => of_records += part.len,
+///         PartKind::Vlr | PartKind::Evlr | PartKind::Waveform => of_records += part.len,
 ///         _ => {}
 ///     }
 /// }
@@ -324,6 +326,8 @@ pub enum PartKind {
     Points,
     /// An EVLR, head and data.
     Evlr,
+    /// The waveform packets, head and data.
+    Waveform,
 }
 
 impl PartKind {
@@ -335,6 +339,7 @@ impl PartKind {
             2 => Some(PartKind::Gap),
             3 => Some(PartKind::Points),
             4 => Some(PartKind::Evlr),
+            5 => Some(PartKind::Waveform),
             _ => None,
         }
     }
@@ -348,6 +353,7 @@ impl fmt::Display for PartKind {
             PartKind::Gap => "gap",
             PartKind::Points => "points",
             PartKind::Evlr => "evlr",
+            PartKind::Waveform => "waveform",
         })
     }
 }
@@ -368,6 +374,21 @@ pub struct Part {
 pub struct Parts<'a> {
     file: &'a [u8],
     cursor: Option<Cursor>,
+}
+
+impl Parts<'_> {
+    /// How many records of a kind the file has, by the cursor's own numbers.
+    fn records_of(&self, kind: PartKind) -> u64 {
+        let Some([_, _, _, _, vlrs, _, _, _, later, is_waveform]) = self.cursor else {
+            return 0;
+        };
+        match (kind, is_waveform) {
+            (PartKind::Vlr, _) => vlrs,
+            (PartKind::Evlr, 0) => later,
+            (PartKind::Waveform, 1) => later,
+            _ => 0,
+        }
+    }
 }
 
 impl Iterator for Parts<'_> {
@@ -399,7 +420,7 @@ impl<'a> Iterator for Vlrs<'a> {
         let part = self.parts.find(|part| part.kind == kind)?;
         self.left = self.left.saturating_sub(1);
         let bytes = sys::part_of(self.file, part.start, part.len);
-        Vlr::read(bytes, kind == PartKind::Evlr).ok()
+        Vlr::read(bytes, kind != PartKind::Vlr).ok()
     }
 
     fn size_hint(&self) -> (usize, Option<usize>) {

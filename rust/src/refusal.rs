@@ -26,13 +26,13 @@ pub enum Kind {
     RecordLength,
     /// 9: the points start inside the header or beyond the file.
     PointOffset,
-    /// 10: there are more VLRs and EVLRs than the caller allows.
+    /// 10: there are more records, VLRs, EVLRs and waveform packets, than the caller allows.
     Allowance,
     /// 11: a VLR does not end where the points begin, or before.
     VlrExtent,
     /// 12: the points do not end in the file.
     PointExtent,
-    /// 13: an EVLR does not end in the file.
+    /// 13: an EVLR, or the waveform packets, do not end in the file.
     EvlrExtent,
     /// 14: the EVLRs start before the end of the points or beyond the file.
     EvlrStart,
@@ -76,13 +76,15 @@ pub enum Kind {
     EvlrsOrWaveforms,
     /// 34: the whole file has counts that the header of LAS 1.2 does not hold.
     CountsTooLargeForOld,
+    /// 35: the waveform packets start before the end of the points or beyond the file.
+    WaveformStart,
     /// A number that this version of the crate does not know.
     Unknown(u64),
 }
 
 impl Kind {
     /// Every kind that has a number, in the table's order.
-    const ALL: [Kind; 34] = [
+    const ALL: [Kind; 35] = [
         Kind::Short,
         Kind::Signature,
         Kind::Version,
@@ -117,6 +119,7 @@ impl Kind {
         Kind::OtherVersionOrFormat,
         Kind::EvlrsOrWaveforms,
         Kind::CountsTooLargeForOld,
+        Kind::WaveformStart,
     ];
 
     /// The kind with this number.
@@ -165,6 +168,7 @@ impl Kind {
             Kind::OtherVersionOrFormat => 32,
             Kind::EvlrsOrWaveforms => 33,
             Kind::CountsTooLargeForOld => 34,
+            Kind::WaveformStart => 35,
             Kind::Unknown(number) => number,
         }
     }
@@ -206,6 +210,7 @@ impl Kind {
             Kind::OtherVersionOrFormat => "other version or format",
             Kind::EvlrsOrWaveforms => "EVLRs or waveforms",
             Kind::CountsTooLargeForOld => "counts too large for old",
+            Kind::WaveformStart => "waveform start",
             Kind::Unknown(_) => "unknown",
         }
     }
@@ -253,7 +258,7 @@ impl Refusal {
         self.kind
     }
 
-    /// The number in the library's table, 1 to 34.
+    /// The number in the library's table, 1 to 35.
     pub fn number(&self) -> u64 {
         self.kind.number()
     }
@@ -268,7 +273,8 @@ impl Refusal {
         self.value
     }
 
-    /// The record that was refused, counted from 1: a VLR or EVLR, counted through both kinds, or a point of a run. Else 0.
+    /// The record that was refused, counted from 1: a VLR, an EVLR or the waveform packets, counted through all kinds, or a point of
+    /// a run. Else 0.
     pub fn record(&self) -> u64 {
         self.record
     }
@@ -363,7 +369,7 @@ impl fmt::Display for Refusal {
             ),
             Kind::Allowance => write!(
                 f,
-                "there are more than the {value} VLRs and EVLRs that were allowed"
+                "there are more than the {value} records, VLRs, EVLRs and waveform packets, that were allowed"
             ),
             Kind::VlrExtent if value == 0 => write!(
                 f,
@@ -381,13 +387,13 @@ impl fmt::Display for Refusal {
             ),
             Kind::EvlrExtent if value == 0 => write!(
                 f,
-                "record {record}, an EVLR: its head of 60 bytes runs past the end of the file; the file may have been \
-                 cut off"
+                "record {record}, an EVLR, or in LAS 1.3 the waveform packets: its head of 60 bytes runs past the end of \
+                 the file; the file may have been cut off"
             ),
             Kind::EvlrExtent => write!(
                 f,
-                "record {record}, an EVLR: its {value} bytes of data run past the end of the file; the file may have \
-                 been cut off"
+                "record {record}, an EVLR, or in LAS 1.3 the waveform packets: its {value} bytes of data run past the end \
+                 of the file; the file may have been cut off"
             ),
             Kind::EvlrStart => write!(
                 f,
@@ -488,6 +494,10 @@ impl fmt::Display for Refusal {
                  points, in all and of each of the returns 1 to 5, and none of returns 6 to 15; the file has to be cut into \
                  smaller ones, or these returns left out, first",
             ),
+            Kind::WaveformStart => f.write_str(
+                "the start of the waveform packets (header byte 227) is before the end of the points or beyond the end of the \
+                 file; where they are in another file, bit 1 of the global encoding (header byte 6) must not be set",
+            ),
             Kind::Unknown(number) => write!(
                 f,
                 "refusal {number} with value {value}, which this version of the crate does not know"
@@ -509,7 +519,8 @@ mod tests {
         assert_eq!(Kind::from_number(27), Kind::Index);
         assert_eq!(Kind::from_number(31), Kind::CountTooLarge);
         assert_eq!(Kind::from_number(34), Kind::CountsTooLargeForOld);
-        assert_eq!(Kind::from_number(35), Kind::Unknown(35));
+        assert_eq!(Kind::from_number(35), Kind::WaveformStart);
+        assert_eq!(Kind::from_number(36), Kind::Unknown(36));
         assert_eq!(Kind::from_number(u64::MAX), Kind::Unknown(u64::MAX));
     }
 
@@ -517,7 +528,7 @@ mod tests {
     fn every_kind_has_a_name_and_a_sentence_of_its_own() {
         let mut names = Vec::new();
         let mut sentences = Vec::new();
-        for number in 1..=34 {
+        for number in 1..=35 {
             let refusal = Refusal::from_row(number, 7, 3);
             names.push(refusal.name());
             sentences.push(refusal.to_string());
@@ -526,7 +537,7 @@ mod tests {
         names.dedup();
         sentences.sort_unstable();
         sentences.dedup();
-        assert_eq!((names.len(), sentences.len()), (34, 34));
+        assert_eq!((names.len(), sentences.len()), (35, 35));
         assert!(sentences.iter().all(|words| !words.ends_with('.')));
     }
 
@@ -555,7 +566,8 @@ mod tests {
         assert!(words(3, 256 + 5, 0).contains("is 1.5: LAS 1.0 to 1.4"));
         assert!(words(11, 0, 2).starts_with("VLR 2: its head of 54 bytes"));
         assert!(words(11, 90, 2).starts_with("VLR 2: its 90 bytes of data"));
-        assert!(words(13, 0, 5).starts_with("record 5, an EVLR: its head of 60 bytes"));
+        assert!(words(13, 0, 5)
+            .starts_with("record 5, an EVLR, or in LAS 1.3 the waveform packets: its head of 60"));
         assert!(words(19, 2, 41).starts_with("point 41: the overlap flag on class 2"));
         assert!(words(19, 12, 1).contains("class 12 without the overlap flag"));
         assert!(words(19, 28, 1).contains("class 28"));

@@ -265,7 +265,7 @@ pub(crate) fn file_check(file: &[u8], allowance: u64) -> (Result<(), Refusal>, u
 
 /// The cursor at the first part.
 pub(crate) fn cursor_start(file: &[u8], allowance: u64) -> Result<Cursor, Refusal> {
-    let mut cursor = [0; 9];
+    let mut cursor = [0; 10];
     asked(|row| calls::las_cursor_start(file, allowance, &mut cursor, row)).map(|_| cursor)
 }
 

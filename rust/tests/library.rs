@@ -2,7 +2,7 @@
 
 mod common;
 
-use common::{plain, rich, two_points, Folder, TWO_POINTS};
+use common::{plain, rich, two_points, waveforms, Folder, TWO_POINTS, WAVEFORMS};
 use inscjarol::{
     allowance_for, Checked, File, Format, Header, Kind, LargeFile, Mapped, Part, PartKind, Point,
     Refusal, Version,
@@ -43,18 +43,22 @@ fn one_point_or_one_byte_less() {
     assert_eq!(refused(&bytes[..246]), (12, 1, 0));
 }
 
+/// The parts of a file, as the parts program lists them.
+fn listed(file: &File<'_>) -> String {
+    let parts = file.parts();
+    let lines = parts.map(|part| format!("{} {} {}\n", part.kind, part.start, part.len));
+    [String::from("kind start length\n")]
+        .into_iter()
+        .chain(lines)
+        .collect()
+}
+
 #[test]
 fn the_parts_of_the_example() {
     let bytes = two_points();
     assert_eq!(bytes.len(), 327);
     let file = File::check(&bytes).unwrap();
-    let parts = file.parts();
-    let listed = parts.map(|part| format!("{} {} {}\n", part.kind, part.start, part.len));
-    let listed: String = [String::from("kind start length\n")]
-        .into_iter()
-        .chain(listed)
-        .collect();
-    assert_eq!(listed, TWO_POINTS);
+    assert_eq!(listed(&file), TWO_POINTS);
     assert_eq!(file.parts().count(), 4);
     assert_eq!(file.records(), 1);
     let vlr = file.vlrs().next().unwrap();
@@ -109,6 +113,65 @@ fn every_refusal_of_the_file_check() {
         refused(&with(bytes.clone(), 235, &early.to_le_bytes())),
         (14, early, 0)
     );
+}
+
+#[test]
+fn waveform_packets_are_a_part_of_their_own() {
+    let bytes = waveforms();
+    let file = File::check(&bytes).unwrap();
+    assert_eq!(listed(&file), WAVEFORMS);
+    assert_eq!(
+        (file.records(), file.vlrs().len(), file.evlrs().len()),
+        (2, 1, 0)
+    );
+    let packets = file.waveform_packets().unwrap();
+    assert!(packets.extended);
+    assert_eq!(
+        (packets.record_id, packets.data),
+        (65_535, b"0123456789".as_slice())
+    );
+    assert_eq!(file.rewritten().unwrap(), bytes);
+
+    // They are the last record, and count.
+    let refusal = File::check_within(&bytes, 1).unwrap_err();
+    assert_eq!((refusal.kind(), refusal.record()), (Kind::Allowance, 2));
+    assert_eq!(refused(&bytes[..501]), (13, 10, 2));
+    assert_eq!(refused(&bytes[..491]), (13, 0, 2));
+    // At the end of the file they start in it, and their head ends too late; at the end of the points they may start.
+    assert_eq!(
+        refused(&with(bytes.clone(), 227, &506_u64.to_le_bytes())),
+        (13, 0, 2)
+    );
+    for start in [1, 428, 507, u64::MAX] {
+        assert_eq!(
+            refused(&with(bytes.clone(), 227, &start.to_le_bytes())),
+            (35, 0, 0)
+        );
+    }
+}
+
+#[test]
+fn no_other_file_has_waveform_packets() {
+    // Without a start, without bit 1, with bit 2 in its place, in LAS 1.2: what follows the points is a gap.
+    let gap = "gap 429 77\n";
+    let others = [
+        with(waveforms(), 227, &[0; 8]),
+        with(waveforms(), 6, &[0, 0]),
+        with(waveforms(), 6, &[0xfd, 0xff]),
+        with(with(waveforms(), 25, &[2]), 104, &[1]),
+    ];
+    for bytes in others {
+        let file = File::check(&bytes).unwrap();
+        assert!(listed(&file).ends_with(gap), "{}", listed(&file));
+        assert_eq!((file.records(), file.waveform_packets()), (1, None));
+    }
+    // LAS 1.4 looks at its EVLRs alone.
+    let mut bytes = rich(9, 0);
+    bytes[6] = 2;
+    bytes[227..235].copy_from_slice(&1_u64.to_le_bytes());
+    let file = File::check(&bytes).unwrap();
+    assert_eq!((file.records(), file.evlrs().len()), (4, 2));
+    assert_eq!(file.waveform_packets(), None);
 }
 
 #[test]

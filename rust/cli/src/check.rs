@@ -94,8 +94,12 @@ fn judge(name: &Name, bytes: &[u8], out: &mut Output) -> Result<Status, Failure>
 /// What an accepted file has, in a line.
 fn accepted(file: &File<'_>) -> String {
     let header = file.header();
+    let packets = match file.waveform_packets() {
+        Some(_) => "waveform packets, ",
+        None => "",
+    };
     format!(
-        "LAS {}, {} of format {}, {}, {}, {}",
+        "LAS {}, {} of format {}, {}, {}, {packets}{}",
         header.version,
         counted(file.point_count(), "point"),
         header.point_data_record_format,
@@ -118,5 +122,6 @@ fn accepted_object(name: &Name, file: &File<'_>) -> String {
         .number("points", file.point_count())
         .number("vlrs", file.vlrs().len() as u64)
         .number("evlrs", file.evlrs().len() as u64)
+        .number("waveforms", u64::from(file.waveform_packets().is_some()))
         .finish()
 }

@@ -26,7 +26,7 @@ const NOT_ACCEPTED: (&str, &str, &str) = ("accepted", "false", "it is none");
 const NUMBER: (&str, &str, &str) = (
     "refusal.number",
     "number",
-    "1 to 34, by the library's table",
+    "1 to 35, by the library's table",
 );
 const KIND: (&str, &str, &str) = ("refusal.name", "text", "what the table calls it");
 const VALUE: (&str, &str, &str) = (
@@ -37,7 +37,7 @@ const VALUE: (&str, &str, &str) = (
 const RECORD: (&str, &str, &str) = (
     "refusal.record",
     "number",
-    "the VLR or EVLR, counted from 1, or 0",
+    "the VLR, EVLR or waveform record, counted from 1, or 0",
 );
 const POINT: (&str, &str, &str) = (
     "refusal.record",
@@ -69,13 +69,14 @@ const OBJECTS: &[(&str, Fields)] = &[
             NAME,
             ACCEPTED,
             ("bytes", "number", "bytes of the file"),
-            ("records", "number", "VLRs and EVLRs together"),
+            ("records", "number", "VLRs, EVLRs and waveform records"),
             ("version", "text", "of LAS, as 1.4"),
             FORMAT,
             ("record_length", "number", "bytes of a point"),
             POINTS,
             ("vlrs", "number", "VLRs"),
             ("evlrs", "number", "EVLRs"),
+            ("waveforms", "number", "records of waveform packets, 0 or 1"),
         ],
     ),
     (
@@ -88,7 +89,7 @@ const OBJECTS: &[(&str, Fields)] = &[
                 "number",
                 "bytes that were there; of a stream, that were read",
             ),
-            ("records", "number", "VLRs and EVLRs that were found whole"),
+            ("records", "number", "such records that were found whole"),
             NUMBER,
             KIND,
             VALUE,
@@ -105,7 +106,11 @@ const OBJECTS: &[(&str, Fields)] = &[
         &[
             NAME,
             ACCEPTED,
-            ("parts[].kind", "text", "header, vlr, gap, points or evlr"),
+            (
+                "parts[].kind",
+                "text",
+                "header, vlr, gap, points, evlr or waveform",
+            ),
             ("parts[].start", "number", "first byte"),
             ("parts[].length", "number", "bytes"),
         ],
@@ -165,6 +170,12 @@ const OBJECTS: &[(&str, Fields)] = &[
             ("evlrs[].start", "number", ""),
             ("evlrs[].data_length", "number", ""),
             ("evlrs[].meaning", "text or null", ""),
+            ("waveforms[].user_id", "text", "as for vlrs; one, or none"),
+            ("waveforms[].record_id", "number", ""),
+            ("waveforms[].description", "text", ""),
+            ("waveforms[].start", "number", ""),
+            ("waveforms[].data_length", "number", ""),
+            ("waveforms[].meaning", "text or null", ""),
             (
                 "gaps[].start",
                 "number",

@@ -9,19 +9,19 @@ use super::{
     show::{counted, float, floats, grouped, plain, plain_or_none},
     Command, Failure, Status,
 };
-use inscjarol::{File, PartKind, Vlr};
+use inscjarol::{File, Part, PartKind, Vlr};
 
 pub(crate) const COMMAND: Command = Command {
     name: "info",
     operands: "FILE..",
     count: (1, usize::MAX),
-    summary: "show the header, the VLRs and the EVLRs in readable form",
+    summary: "show the header, the VLRs, the EVLRs and the waveform packets in readable form",
     options: &[],
     help: "\
 Shows what the header says: version, software, date, point format, counts, scale, offset and bounds. Counts by return
-and bounds are the header's word, not worked out from the points. Then come the VLRs and EVLRs, each with its user id,
-record id, description, length and first byte, and what it is where that is known; and the gaps, which are bytes that
-belong to no part.
+and bounds are the header's word, not worked out from the points. Then come the VLRs and EVLRs, and the waveform packets
+where they are a record of the file, each with its user id, record id, description, length and first byte, and what it
+is where that is known; and the gaps, which are bytes that belong to no part.
 
 Each file stands under its name. Of a folder the .las files are shown, in the order of their names.
 
@@ -58,7 +58,7 @@ fn run(words: &Words, out: &mut Output) -> Result<Status, Failure> {
     Ok(worst)
 }
 
-/// A VLR or EVLR and where it is.
+/// A record and where it is.
 struct Placed<'a> {
     start: u64,
     vlr: Vlr<'a>,
@@ -66,17 +66,16 @@ struct Placed<'a> {
 
 /// The records of a kind with their places.
 fn placed<'a>(file: &File<'a>, kind: PartKind) -> Vec<Placed<'a>> {
-    let places = file
-        .parts()
-        .filter(|part| part.kind == kind)
-        .map(|part| part.start);
-    let records = match kind {
-        PartKind::Evlr => file.evlrs(),
-        _ => file.vlrs(),
+    let read = |part: Part| {
+        let vlr = Vlr::read(file.part(part), kind != PartKind::Vlr).ok()?;
+        Some(Placed {
+            start: part.start,
+            vlr,
+        })
     };
-    places
-        .zip(records)
-        .map(|(start, vlr)| Placed { start, vlr })
+    file.parts()
+        .filter(|part| part.kind == kind)
+        .filter_map(read)
         .collect()
 }
 
@@ -178,8 +177,15 @@ fn for_people(file: &File<'_>, out: &mut Output) -> Result<(), Failure> {
         say("waveform data", format!("from byte {start}"))?;
     }
 
-    for (kind, heading) in [(PartKind::Vlr, "VLRs"), (PartKind::Evlr, "EVLRs")] {
+    for (kind, heading) in [
+        (PartKind::Vlr, "VLRs"),
+        (PartKind::Evlr, "EVLRs"),
+        (PartKind::Waveform, "waveform packets"),
+    ] {
         let records = placed(file, kind);
+        if kind == PartKind::Waveform && records.is_empty() {
+            continue; // most files have none, and are not said to
+        }
         out.line(&format!("  {heading:<22}{}", grouped(records.len() as u64)))?;
         for (number, Placed { start, vlr }) in (1_u64..).zip(&records) {
             let description = vlr.about();
@@ -232,7 +238,7 @@ fn listed(floats: [f64; 3]) -> Vec<String> {
     floats.into_iter().map(json::float).collect()
 }
 
-/// VLRs or EVLRs as JSON.
+/// Records of a kind as JSON.
 fn records(records: &[Placed<'_>]) -> Vec<String> {
     let record = |Placed { start, vlr }: &Placed<'_>| {
         let mut object = Object::new();
@@ -298,6 +304,7 @@ fn for_programs(name: &Name, file: &File<'_>) -> String {
     object
         .list("vlrs", records(&placed(file, PartKind::Vlr)))
         .list("evlrs", records(&placed(file, PartKind::Evlr)))
+        .list("waveforms", records(&placed(file, PartKind::Waveform)))
         .list("gaps", gaps);
     object.finish()
 }

@@ -13,7 +13,7 @@ pub(crate) const COMMAND: Command = Command {
     name: "parts",
     operands: "FILE..",
     count: (1, usize::MAX),
-    summary: "list the parts of a file: header, VLRs, points, EVLRs and gaps",
+    summary: "list the parts of a file: header, VLRs, points, EVLRs, waveform packets and gaps",
     options: &[],
     help: "\
 Each line is a part: its kind, its first byte and how many bytes it has, in the order of the file. The parts cover the

@@ -23,8 +23,9 @@ pub(crate) const COMMAND: Command = Command {
         help: "replace an OUT that is there",
     }],
     help: "\
-Header, VLRs, points and EVLRs of OUT are each written from what was read of IN, and gaps are copied. The bytes are the
-same, except that an EVLR start and count of which one is zero become two zeros; that is said where it happens.
+Header, VLRs, points, EVLRs and waveform packets of OUT are each written from what was read of IN, and gaps are copied.
+The bytes are the same, except that an EVLR start and count of which one is zero become two zeros; that is said where it
+happens.
 
 An OUT that is there is refused, unless it is IN itself or --force is given; one that is read-only is refused always.
 What is replaced keeps its owner and its mode where the system lets us, and an OUT that is a link stays one: the file

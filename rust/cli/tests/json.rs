@@ -4,7 +4,7 @@
 #[path = "../../tests/common/mod.rs"]
 mod common;
 
-use common::{plain, rich, sample, two_points, Folder};
+use common::{plain, rich, sample, two_points, waveforms, Folder};
 use inscjarol::{Header, Version};
 use std::{
     collections::{BTreeMap, BTreeSet},
@@ -118,8 +118,8 @@ fn every_field_that_is_printed_is_told_and_every_one_that_is_told_is_printed() {
     for place in [131, 139, 147, 155, 179, 187] {
         odd[place..place + 8].copy_from_slice(&f64::NAN.to_le_bytes());
     }
-    let mut waveform = Header::new(Version { major: 1, minor: 3 }).unwrap();
-    waveform.start_of_waveform_data_packet_record = Some(5);
+    let mut odd_packets = waveforms();
+    odd_packets[432 + 2] = b'?';
     let mut new = Header::new(Version { major: 1, minor: 4 }).unwrap();
     new.point_data_record_format = 6;
     new.point_data_record_length = 30;
@@ -131,7 +131,8 @@ fn every_field_that_is_printed_is_told_and_every_one_that_is_told_is_printed() {
         folder.put("nir.las", &rich(8, 0)),
         folder.put("two.las", &two_points()),
         folder.put("half.las", &half_zero),
-        folder.put("waveform.las", &waveform.to_vec(&[]).unwrap()),
+        folder.put("waveform.las", &waveforms()),
+        folder.put("packets.las", &odd_packets),
         folder.put("new.las", &new.to_vec(&[]).unwrap()),
         folder.put("cut.las", &plain(3)[..250]),
         folder.put("sample.las", &fs::read(sample()).unwrap()),

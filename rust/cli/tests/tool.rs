@@ -3,7 +3,7 @@
 #[path = "../../tests/common/mod.rs"]
 mod common;
 
-use common::{plain, rich, sample, two_points, Folder, TWO_POINTS};
+use common::{plain, rich, sample, two_points, waveforms, Folder, TWO_POINTS, WAVEFORMS};
 use inscjarol::{Format, Header, LargeFile, Point, Version, Vlr};
 use std::{
     fs::{self, File},
@@ -169,6 +169,50 @@ fn the_listing_of_the_example() {
             path.display()
         )
     );
+}
+
+#[test]
+fn waveform_packets() {
+    let folder = Folder::new("waveforms");
+    let path = folder.put("waveforms.las", &waveforms());
+    let (out, err, status) = on(&["parts"], &path);
+    assert_eq!(
+        (out.as_str(), err.as_str(), status),
+        (WAVEFORMS, "", Some(0))
+    );
+    let (out, _, _) = on(&["check"], &path);
+    let line = "LAS 1.3, 2 points of format 4, 1 VLR, 0 EVLRs, waveform packets, 506 bytes\n";
+    assert!(out.ends_with(line), "{out}");
+    let (out, _, _) = on(&["info"], &path);
+    assert!(
+        out.contains(
+            "\n  waveform packets      1\n     1  LASF_Spec 65535, 10 bytes of data, from byte 432, \"waveforms\"\n        waveform data\n"
+        ),
+        "{out}"
+    );
+    let (out, _, _) = on(&["check", "--json"], &path);
+    assert!(
+        out.contains("\"records\":2,") && out.contains("\"waveforms\":1}"),
+        "{out}"
+    );
+    let (out, _, _) = on(&["info", "--json"], &path);
+    assert!(
+        out.contains("\"waveforms\":[{\"user_id\":\"LASF_Spec\",\"record_id\":65535,"),
+        "{out}"
+    );
+
+    let mut bytes = waveforms();
+    bytes[227] = 0xff;
+    let late = folder.put("late.las", &bytes);
+    let (out, err, status) = on(&["parts"], &late);
+    assert_eq!((out.as_str(), status), ("refused 35 0 0\n", Some(1)));
+    assert!(
+        err.contains("the start of the waveform packets (header byte 227)"),
+        "{err}"
+    );
+    // Files without them are not said to have none.
+    let (out, _, _) = on(&["info"], &sample());
+    assert!(!out.contains("waveform packets"));
 }
 
 #[test]

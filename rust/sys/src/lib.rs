@@ -17,7 +17,7 @@ pub type Row = [u64; 3];
 pub type PointNumbers = [u64; 24];
 
 /// A cursor over the parts of a file, as the library keeps it.
-pub type Cursor = [u64; 9];
+pub type Cursor = [u64; 10];
 
 /// A walker's place: the format's word, where the next record is, how many are left, the count, and number, value and
 /// record number where the file was refused.

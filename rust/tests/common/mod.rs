@@ -170,6 +170,38 @@ pub fn old(code: u8, chance: &mut Chance) -> Vec<u8> {
     bytes
 }
 
+/// A file of LAS 1.3 with a VLR, two points, and the waveform packets in it, with gaps around them.
+pub fn waveforms() -> Vec<u8> {
+    let format = Format::new(4).unwrap();
+    let vlr = Vlr::new(false, "LASF_Spec", 100, "packet", &[8; 26]);
+    let packets = Vlr::new(true, "LASF_Spec", 65_535, "waveforms", b"0123456789");
+    let mut header = Header::new(Version { major: 1, minor: 3 }).unwrap();
+    header.global_encoding = 2;
+    header.offset_to_point_data = 235 + 80;
+    header.number_of_variable_length_records = 1;
+    header.point_data_record_format = 4;
+    header.point_data_record_length = 57;
+    header.number_of_point_records = 2;
+    header.start_of_waveform_data_packet_record = Some(235 + 80 + 2 * 57 + 3);
+    let mut bytes = header.to_vec(&[]).unwrap();
+    bytes.extend(vlr.to_vec().unwrap());
+    for x in [3, -3] {
+        let point = Point {
+            x,
+            ..Point::default()
+        };
+        bytes.extend(point.to_vec(format).unwrap());
+    }
+    bytes.extend(b"gap");
+    bytes.extend(packets.to_vec().unwrap());
+    bytes.extend(b"rest");
+    bytes
+}
+
+/// Its parts, as they are listed.
+pub const WAVEFORMS: &str = "kind start length\nheader 0 235\nvlr 235 80\npoints 315 114\n\
+    gap 429 3\nwaveform 432 70\ngap 502 4\n";
+
 /// The folder of the repository, above the package that is tested.
 pub fn repository() -> PathBuf {
     let here = Path::new(env!("CARGO_MANIFEST_DIR"));
