@@ -100,8 +100,8 @@ const FEW: Lot = Lot {
 };
 
 /// Every number that the calls can answer with.
-const NUMBERS: [usize; 20] = [
-    0, 1, 2, 3, 4, 5, 6, 7, 8, 9, 10, 11, 12, 13, 14, 22, 28, 29, 30, 31,
+const NUMBERS: [usize; 21] = [
+    0, 1, 2, 3, 4, 5, 6, 7, 8, 9, 10, 11, 12, 13, 14, 22, 28, 29, 30, 31, 35,
 ];
 
 /// How often each must have been answered, or else the run has not tested it.

@@ -1,12 +1,12 @@
-//! Files: checked, taken apart, walked and rewritten, by the port and by document 01's rules as
-//! `file_model` has them.
+//! Files: checked, taken apart, walked and rewritten, by the port and by the rules of documents 01 and 02
+//! as `file_model` has them.
 
 use crate::{
     answer::Answer,
     capi::{self, Cursor, Place, PointNumbers, Row, Span},
     file_model::{self, Found, Part},
     file_wrong::{ERRORS, StandIn},
-    files::{MANY, Patch, Whole},
+    files::{KINDS, MANY, OF_1_3, Patch, Whole},
     format::{self, LONGEST},
     point,
     records::{self, Lcg, most_extra, record_len},
@@ -93,37 +93,43 @@ const LONG: Lot = Lot {
     random: 20,
 };
 
+/// How many 1.3 files are made whole for their waveform packets to be moved about: 20 million are made of
+/// them.
+const PACKETS: u64 = 52_000;
+
 /// Few enough for each stand-in to take a blink.
 const FEW: Lot = Lot {
     whole: 100,
     ..SMALL
 };
+const FEW_PACKETS: u64 = 12;
 
-/// Every number that the calls can answer with. Document 01's others are those of conversion and of
+/// Every number that the calls can answer with. The others are those of conversion, of appending and of
 /// single records.
-const NUMBERS: [usize; 17] = [0, 1, 2, 3, 4, 5, 6, 7, 8, 9, 10, 11, 12, 13, 14, 22, 27];
+const NUMBERS: [usize; 18] = [0, 1, 2, 3, 4, 5, 6, 7, 8, 9, 10, 11, 12, 13, 14, 22, 27, 35];
 
 /// How often each must have been answered, or else the run has not tested it.
 const OFTEN: u64 = 100_000;
 
 /// What is counted: the files by the way in which they are made, all of them, and the points that the
 /// walkers gave.
-const COUNTED: [&str; 8] = [
+const COUNTED: [&str; 9] = [
     "files made whole",
     "files with a number at a boundary",
     "files with several, or cut besides",
     "files cut at every byte",
     "files with bytes changed at random",
+    "1.3 files, packets around every edge",
     "files in all",
     "points",
     "points with near infrared 0",
 ];
-const FILES: usize = 5;
-const POINTS: usize = 6;
-const ZEROS: usize = 7;
+const FILES: usize = 6;
+const POINTS: usize = 7;
+const ZEROS: usize = 8;
 
 /// What comparing all calls on files came to.
-type Outcome = report::Outcome<6, 8>;
+type Outcome = report::Outcome<6, 9>;
 
 /// The calls, and the places of their reports.
 const CALLS: [&str; 6] = [
@@ -150,6 +156,7 @@ struct Comparison<'a, L> {
     whole: Whole,
     file: Vec<u8>,
     patches: Vec<Patch>,
+    packets: Vec<[Patch; 3]>,
     random: Lcg,
     found: Found,
     /// What should be in the table and in the destination, which hold `BEFORE` between calls, and
@@ -193,6 +200,7 @@ impl<'a, L: Library> Comparison<'a, L> {
             whole: Whole::default(),
             file: Vec::new(),
             patches: Vec::new(),
+            packets: Vec::new(),
             random: Lcg::new(0),
             found: Found::default(),
             parts: Vec::new(),
@@ -204,11 +212,11 @@ impl<'a, L: Library> Comparison<'a, L> {
         }
     }
 
-    /// The `index`-th whole file of a lot and everything that is made of it.
-    fn all_of(&mut self, lot: Lot, index: u64) {
+    /// The `index`-th whole file as it is, with every allowance that tells; how many bytes it has.
+    fn whole(&mut self, index: u64, long: bool, kinds: &[(u8, u8)]) -> usize {
         self.index = index;
         self.random = Lcg::new(!index);
-        self.whole.make(index, lot.long);
+        self.whole.make_of(index, long, kinds);
         self.file.clone_from(&self.whole.bytes);
         let end = self.file.len();
         // A record has 54 bytes or more, and at most five parts are none.
@@ -222,6 +230,22 @@ impl<'a, L: Library> Comparison<'a, L> {
         for allowance in self.whole.allowances() {
             self.compare(&[], end, allowance);
         }
+        end
+    }
+
+    /// The `index`-th whole file of version 1.3, with its waveform packets moved about.
+    fn packets_of(&mut self, index: u64) {
+        let end = self.whole(index, false, &KINDS[OF_1_3]);
+        self.whole.packets(&mut self.random, &mut self.packets);
+        for k in 0..self.packets.len() {
+            let damage = self.packets[k];
+            self.damaged(5, &damage, end);
+        }
+    }
+
+    /// The `index`-th whole file of a lot and everything that is made of it.
+    fn all_of(&mut self, lot: Lot, index: u64) {
+        let end = self.whole(index, lot.long, &KINDS);
         self.whole.boundaries(&mut self.patches);
         for k in 0..self.patches.len() {
             self.damaged(1, &[self.patches[k]], end);
@@ -311,7 +335,7 @@ impl<'a, L: Library> Comparison<'a, L> {
         let mut port = [u64::MAX; 4];
         self.port.check(lent.file, lent.allowance, &mut port);
         self.count(CHECK, rules == port, lent, || {
-            format!("document 01 {rules:?}, port {port:?}")
+            format!("the rules {rules:?}, port {port:?}")
         });
     }
 
@@ -363,9 +387,9 @@ impl<'a, L: Library> Comparison<'a, L> {
     fn compare_cursor(&mut self, lent: Lent, answer: Answer) {
         let mut should = match answer.number {
             0 => self.found.cursor(lent.file),
-            _ => [BEFORE; 9],
+            _ => [BEFORE; 10],
         };
-        let mut cursor = [BEFORE; 9];
+        let mut cursor = [BEFORE; 10];
         let row = capi::row(|row| {
             self.port
                 .cursor(lent.file, lent.allowance, &mut cursor, row)
@@ -521,6 +545,16 @@ fn compare_with(library: &impl Library, lot: Lot) -> Outcome {
     outcomes.into_iter().fold(Outcome::new(CALLS), Outcome::and)
 }
 
+/// The same on so many whole files of version 1.3 and what is made of them by moving their waveform packets.
+fn compare_packets(library: &impl Library, whole: u64) -> Outcome {
+    let outcomes = stretches(whole, |stretch| {
+        let mut comparison = Comparison::new(library);
+        stretch.for_each(|index| comparison.packets_of(index));
+        comparison.outcome
+    });
+    outcomes.into_iter().fold(Outcome::new(CALLS), Outcome::and)
+}
+
 /// The comparison itself is tested: a stand-in that follows the rules agrees with them, and one with
 /// an error put in doesn't, whichever error it is.
 pub fn compare_stand_ins() -> Report {
@@ -528,6 +562,7 @@ pub fn compare_stand_ins() -> Report {
     let agrees = |error| {
         let library = &StandIn { error };
         compare_with(library, FEW).agrees()
+            && compare_packets(library, FEW_PACKETS).agrees()
             && compare_places(library).agrees()
             && compare_cursors(library, 100).agrees()
     };
@@ -704,7 +739,7 @@ fn compare_cursors(library: &impl Library, files: u64) -> Report {
                             3 => *number | random.long() << 32,
                             4 => 1 << 32,
                             5 => random.long() >> random.below(64),
-                            6 => own[3 + random.below(6) as usize],
+                            6 => own[3 + random.below(7) as usize],
                             _ => *number,
                         };
                     }
@@ -727,7 +762,9 @@ fn compare_cursors(library: &impl Library, files: u64) -> Report {
 /// made, and how often each number was answered.
 pub fn compare_library(tally: &mut Tally, library: &impl Library) {
     tally.add(compare_described(library));
-    let outcome = compare_with(library, SMALL).and(compare_with(library, LONG));
+    let outcome = compare_with(library, SMALL)
+        .and(compare_with(library, LONG))
+        .and(compare_packets(library, PACKETS));
     let [check, parts, cursor, walk, record, rewrite] = outcome.reports;
     tally.add(check);
     tally.add(parts);

@@ -1,5 +1,6 @@
-//! Document 01's rules about files, written from its text alone: which files are accepted, of what
-//! parts they are, what their points hold and what is written back.
+//! Document 01's rules about files, with document 02's on waveform packets, written from their text
+//! alone: which files are accepted, of what parts they are, what their points hold and what is written
+//! back.
 //!
 //! The Rust has no such calls, so that the port is compared with this. It shares nothing with the
 //! port but the text, and only the points are the Rust's own, but for near infrared 0. All numbers are
@@ -20,6 +21,7 @@ pub const VLR: u64 = 1;
 pub const GAP: u64 = 2;
 pub const POINTS: u64 = 3;
 pub const EVLR: u64 = 4;
+pub const WAVEFORM: u64 = 5;
 
 /// "Point record bytes, formats 0 to 10".
 pub const POINT_BYTES: [u128; 11] = [20, 28, 26, 34, 57, 63, 30, 36, 38, 59, 67];
@@ -80,10 +82,16 @@ const EVLRS: Record = Record {
     extent: 13,
 };
 
+/// "The waveform packets are a record with a 60-byte head", refused with "10 or 13".
+const PACKETS: Record = Record {
+    kind: WAVEFORM,
+    ..EVLRS
+};
+
 /// What the rules found in a file, as far as they came. It is used again from file to file.
 #[derive(Default)]
 pub struct Found {
-    /// The VLRs and then the EVLRs that were found whole.
+    /// The VLRs and then the EVLRs, or the waveform packets, that were found whole.
     records: Vec<Part>,
     header_size: u128,
     format: u8,
@@ -192,6 +200,15 @@ impl Found {
             return refused(12, self.points);
         }
 
+        // Document 02, No. 11: "after 12: start before the end of points or beyond the file", which is 35
+        // with the value 0, as a later refusal is that no table names, "then 10 or 13".
+        if let Some(start) = packets_start(file) {
+            if start < end_of_points || start > end {
+                return refused(35, 0);
+            }
+            return self.records(file, PACKETS, start, 1, end, allowance);
+        }
+
         // Rule 8.
         match evlr_pair(file) {
             None | Some((0, _) | (_, 0)) => Ok(()),
@@ -201,7 +218,7 @@ impl Found {
     }
 
     /// Rules 6 and 8 on `count` records, one directly after another from `at` on, that have to end
-    /// at or before `end`. Record numbers and the allowance go through both kinds.
+    /// at or before `end`. Record numbers and the allowance go through all kinds.
     fn records(
         &mut self,
         file: &[u8],
@@ -254,6 +271,7 @@ impl Found {
             .chain(of_kind(VLR))
             .chain(&[points])
             .chain(of_kind(EVLR))
+            .chain(of_kind(WAVEFORM))
             .chain(&[end_of_file])
         {
             if at < start {
@@ -269,9 +287,11 @@ impl Found {
     /// The cursor before the first part of the accepted file that was checked last.
     pub fn cursor(&self, file: &[u8]) -> Cursor {
         let end_of_points = self.point_offset + self.points * self.record_length;
-        let (start, evlrs) = match evlr_pair(file) {
-            None | Some((0, _) | (_, 0)) => (end_of_points, 0),
-            Some(pair) => pair,
+        let packets = packets_start(file);
+        let (start, later) = match (packets, evlr_pair(file)) {
+            (Some(start), _) => (start, 1),
+            (None, None | Some((0, _) | (_, 0))) => (end_of_points, 0),
+            (None, Some(pair)) => pair,
         };
         [
             0,
@@ -282,7 +302,8 @@ impl Found {
             self.point_offset,
             end_of_points,
             start,
-            evlrs,
+            later,
+            u128::from(packets.is_some()),
         ]
         .map(|n| n as u64)
     }
@@ -317,8 +338,9 @@ impl Found {
 }
 
 /// The part at a cursor, and the cursor after it, whatever the cursor holds: stage, the first byte that
-/// is next, how many records are left of the stage, and the plan, of which the counts are 32 bits.
-/// None "after the last part, and at a VLR or EVLR that is not all there".
+/// is next, how many records are left of the stage, and the plan, of which the counts are 32 bits, and
+/// of which the last number says that the record after the points is the waveform packets, whatever it is
+/// but 0. None "after the last part, and at a record that is not all there".
 pub fn step(file: &[u8], cursor: Cursor) -> Option<(Part, Cursor)> {
     let [
         stage,
@@ -329,13 +351,23 @@ pub fn step(file: &[u8], cursor: Cursor) -> Option<(Part, Cursor)> {
         offset,
         end_of_points,
         start,
-        evlrs,
+        later,
+        is_packets,
     ] = cursor;
-    let [left, vlrs, evlrs] = [left, vlrs, evlrs].map(|count| count & 0xffff_ffff);
+    let [left, vlrs, later] = [left, vlrs, later].map(|count| count & 0xffff_ffff);
+    let is_packets = u64::from(is_packets != 0);
     let end = file.len() as u64;
     let moved = |stage, at, left| {
-        let plan = [header_size, vlrs, offset, end_of_points, start, evlrs];
-        let mut cursor = [stage, at, left, 0, 0, 0, 0, 0, 0];
+        let plan = [
+            header_size,
+            vlrs,
+            offset,
+            end_of_points,
+            start,
+            later,
+            is_packets,
+        ];
+        let mut cursor = [stage, at, left, 0, 0, 0, 0, 0, 0, 0];
         cursor[3..].copy_from_slice(&plan);
         cursor
     };
@@ -357,8 +389,9 @@ pub fn step(file: &[u8], cursor: Cursor) -> Option<(Part, Cursor)> {
         1 if left > 0 => record(VLRS, 1, offset.min(end)),
         1 if at < offset => Some(([GAP, at, offset - at], moved(2, offset, 0))),
         1 | 2 => Some(points),
-        3 if at < start => Some(([GAP, at, start - at], moved(4, start, evlrs))),
-        3 => step(file, moved(4, start, evlrs)),
+        3 if at < start => Some(([GAP, at, start - at], moved(4, start, later))),
+        3 => step(file, moved(4, start, later)),
+        _ if left > 0 && is_packets == 1 => record(PACKETS, 4, end),
         _ if left > 0 => record(EVLRS, 4, end),
         _ if at < end => Some(([GAP, at, end - at], moved(4, end, 0))),
         _ => None,
@@ -368,6 +401,14 @@ pub fn step(file: &[u8], cursor: Cursor) -> Option<(Part, Cursor)> {
 /// The EVLR start and count, which "only 1.4 has", as they stand in a file with a whole header.
 fn evlr_pair(file: &[u8]) -> Option<(u128, u128)> {
     (number(file, 25, 1) == 4).then(|| (number(file, 235, 8), number(file, 243, 4)))
+}
+
+/// Where the waveform packets start: "in 1.3 with bit 1 of global encoding set and a waveform start that
+/// isn't zero", in a file with a whole header.
+fn packets_start(file: &[u8]) -> Option<u128> {
+    let inside = number(file, 25, 1) == 3 && number(file, 6, 2) >> 1 & 1 == 1;
+    let start = inside.then(|| number(file, 227, 8));
+    start.filter(|&start| start != 0)
 }
 
 /// The bytes that an accepted file is written back with: its own, but "none is written as two

@@ -6,7 +6,7 @@
 use crate::{
     capi::{Cursor, Place, PointNumbers, Row, Span},
     file::Library,
-    file_model::{EVLR, GAP, HEADER, POINTS, Part, VLR},
+    file_model::{EVLR, GAP, HEADER, POINTS, Part, VLR, WAVEFORM},
     format::{self, LONGEST},
     point::{self, HAS_NIR, NIR},
     records::record_len,
@@ -36,6 +36,23 @@ errors! {
     EvlrLengthIn32Bits,
     EvlrSumIn64Bits,
     EvlrCountAlone,
+    PacketsByBit2,
+    PacketsWithoutTheBit,
+    PacketsInVersion14,
+    PacketsFrom12On,
+    PacketsAtZero,
+    PacketsBeforePoints,
+    PacketsStartAs14,
+    PacketsStartWithItsField,
+    PacketsStartNamesTheRecord,
+    PacketsStartAtEndRefused,
+    PacketsStartOnlyInFile,
+    PacketsNotCounted,
+    PacketsAllowedForNothing,
+    PacketsNumberedAfresh,
+    PacketsWithAVlrsHead,
+    PacketsToldAsEvlr,
+    PacketsAGap,
     LastGapDropped,
     MiddleGapDropped,
     EmptyGapsKept,
@@ -50,6 +67,8 @@ errors! {
     CursorVlrsUpToEndOfFile,
     CursorCountsIn64Bits,
     CursorPointsInPlace,
+    CursorPacketsByOneAlone,
+    CursorForgetsPackets,
     PartClearedAtEnd,
     WalkerWithoutExtraBytes,
     WalkerStartsAgain,
@@ -87,6 +106,8 @@ struct Sight {
     length: u64,
     format: u8,
     evlrs: bool,
+    /// Where the waveform packets start, if they are in the file.
+    packets: Option<u64>,
 }
 
 fn u16_at(file: &[u8], at: u64) -> u64 {
@@ -195,7 +216,12 @@ impl StandIn {
             false => sight.points <= (end - offset) / sight.length,
         };
         let no_points = [12, sight.points, 0];
-        if !fits(sight) && !self.has(EvlrsBeforePoints) {
+        sight.packets = self.packets(file);
+        let later_first = match sight.packets {
+            Some(_) => self.has(PacketsBeforePoints),
+            None => self.has(EvlrsBeforePoints),
+        };
+        if !fits(sight) && !later_first {
             return Err(no_points);
         }
         let bytes = sight.points.wrapping_mul(sight.length);
@@ -214,11 +240,42 @@ impl StandIn {
                 self.record(file, EVLR, end, allowance, sight)?;
             }
         }
+        if let Some(start) = sight.packets {
+            let late = start > end || self.has(PacketsStartAtEndRefused) && start == end;
+            let early = start < point_end && !self.has(PacketsStartOnlyInFile);
+            if early || late {
+                let number = if self.has(PacketsStartAs14) { 14 } else { 35 };
+                let field = self.has(PacketsStartWithItsField) || number == 14;
+                let record = match self.has(PacketsStartNamesTheRecord) {
+                    true => sight.whole + 1,
+                    false => 0,
+                };
+                return Err([number, if field { start } else { 0 }, record]);
+            }
+            sight.gap(start);
+            sight.at = start;
+            self.record(file, WAVEFORM, end, allowance, sight)?;
+        }
         if !fits(sight) {
             return Err(no_points);
         }
         sight.gap(end);
         Ok(())
+    }
+
+    /// Where the waveform packets of a file start that has them in it.
+    fn packets(&self, file: &[u8]) -> Option<u64> {
+        let bit = if self.has(PacketsByBit2) { 4 } else { 2 };
+        let set = file[6] & bit != 0 || self.has(PacketsWithoutTheBit);
+        let known = match file[25] {
+            3 => true,
+            4 => self.has(PacketsInVersion14),
+            2 => self.has(PacketsFrom12On),
+            _ => false,
+        };
+        // Where 1.2 has no such field, its bytes are padding or a VLR's, or the file may be too short.
+        let start = (known && set && file.len() >= 235).then(|| u64_at(file, 227));
+        start.filter(|&start| start != 0 || self.has(PacketsAtZero))
     }
 
     /// The record at the place that the check has come to.
@@ -231,15 +288,26 @@ impl StandIn {
         sight: &mut Sight,
     ) -> Result<(), Row> {
         let at = sight.at;
-        let (head, extent) = if kind == VLR { (54, 11) } else { (60, 13) };
-        let vlrs = sight.parts.iter().filter(|part| part[0] == VLR).count() as u64;
-        let record = 1 + match kind == EVLR && self.has(RecordNumbersAfresh) {
-            true => sight.whole - vlrs,
-            false => sight.whole,
+        let (head, extent) = match kind {
+            VLR => (54, 11),
+            WAVEFORM if self.has(PacketsWithAVlrsHead) => (54, 13),
+            _ => (60, 13),
         };
-        let spent = match kind == EVLR {
-            true if self.has(AllowanceForVlrsOnly) => false,
-            true if self.has(AllowanceForEachKind) => sight.whole - vlrs == allowance,
+        let vlrs = sight.parts.iter().filter(|part| part[0] == VLR).count() as u64;
+        let afresh = match kind {
+            EVLR => self.has(RecordNumbersAfresh),
+            WAVEFORM => self.has(PacketsNumberedAfresh),
+            _ => false,
+        };
+        let record = 1 + if afresh {
+            sight.whole - vlrs
+        } else {
+            sight.whole
+        };
+        let spent = match kind {
+            EVLR if self.has(AllowanceForVlrsOnly) => false,
+            EVLR if self.has(AllowanceForEachKind) => sight.whole - vlrs == allowance,
+            WAVEFORM if self.has(PacketsAllowedForNothing) => false,
             _ => sight.whole == allowance,
         };
         if spent && !self.has(ExtentBeforeAllowance) {
@@ -266,7 +334,13 @@ impl StandIn {
         if spent {
             return Err([10, allowance, record]);
         }
-        sight.whole += 1;
+        let counts = kind != WAVEFORM || !self.has(PacketsNotCounted);
+        sight.whole += u64::from(counts);
+        let kind = match kind {
+            WAVEFORM if self.has(PacketsToldAsEvlr) => EVLR,
+            WAVEFORM if self.has(PacketsAGap) => GAP,
+            kind => kind,
+        };
         sight.part(kind, at, head.wrapping_add(length));
         Ok(())
     }
@@ -351,16 +425,17 @@ impl Library for StandIn {
         if let Err(refusal) = answer {
             *row = refusal;
             if self.has(CursorClearedOnRefusal) {
-                *cursor = [0; 9];
+                *cursor = [0; 10];
             }
             return;
         }
         *row = [0; 3];
         let bytes = sight.points.wrapping_mul(sight.length);
         let point_end = sight.offset.wrapping_add(bytes);
-        let (start, evlrs) = match sight.evlrs {
-            true => (u64_at(file, 235), u32_at(file, 243)),
-            false => (point_end, 0),
+        let (start, later) = match sight.packets {
+            Some(start) => (start, 1),
+            None if sight.evlrs => (u64_at(file, 235), u32_at(file, 243)),
+            None => (point_end, 0),
         };
         *cursor = [
             0,
@@ -371,7 +446,8 @@ impl Library for StandIn {
             sight.offset,
             point_end,
             start,
-            evlrs,
+            later,
+            u64::from(sight.packets.is_some()),
         ];
     }
 
@@ -380,19 +456,35 @@ impl Library for StandIn {
         let end = file.len() as u64;
         let mut now = *cursor;
         now[0] = now[0].min(4);
+        now[9] = match self.has(CursorPacketsByOneAlone) {
+            true => u64::from(now[9] == 1),
+            false => now[9].min(1),
+        };
         if !self.has(CursorCountsIn64Bits) {
             for k in [2, 4, 8] {
                 now[k] &= 0xffff_ffff;
             }
         }
         loop {
-            let [stage, at, left, size, vlrs, offset, point_end, start, evlrs] = now;
+            let [
+                stage,
+                at,
+                left,
+                size,
+                vlrs,
+                offset,
+                point_end,
+                start,
+                later,
+                packets,
+            ] = now;
             let (told, next) = match stage {
                 0 => ([HEADER, 0, size], [1, size, vlrs]),
                 1 | 4 if left > 0 => {
                     let (kind, head, until) = match stage {
                         1 if self.has(CursorVlrsUpToEndOfFile) => (VLR, 54, end),
                         1 => (VLR, 54, offset.min(end)),
+                        _ if packets == 1 => (WAVEFORM, 60, end),
                         _ => (EVLR, 60, end),
                     };
                     let room = until.saturating_sub(at);
@@ -416,7 +508,7 @@ impl Library for StandIn {
                     [POINTS, offset, point_end.saturating_sub(offset)],
                     [3, point_end, 0],
                 ),
-                3 => ([GAP, at, start.saturating_sub(at)], [4, start, evlrs]),
+                3 => ([GAP, at, start.saturating_sub(at)], [4, start, later]),
                 _ if at < end => ([GAP, at, end - at], [4, end, 0]),
                 _ => {
                     if self.has(PartClearedAtEnd) {
@@ -429,6 +521,9 @@ impl Library for StandIn {
                 }
             };
             now[..3].copy_from_slice(&next);
+            if self.has(CursorForgetsPackets) {
+                now[9] = 0;
+            }
             match told {
                 [GAP, _, 0] if self.has(CursorStopsAtEmptyGap) => return 0,
                 [GAP, _, 0] if !self.has(CursorTellsEmptyGaps) => continue,

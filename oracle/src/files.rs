@@ -24,6 +24,9 @@ pub const KINDS: [(u8, u8); 25] = {
     kinds
 };
 
+/// Those of version 1.3.
+pub const OF_1_3: std::ops::Range<usize> = 8..14;
+
 /// The highest format of versions 1.0 to 1.4.
 pub const HIGHEST: [u8; 5] = [1, 1, 3, 5, 10];
 
@@ -81,7 +84,8 @@ pub struct Whole {
     record_length: usize,
     points: u64,
     point_end: usize,
-    evlrs: Vec<(usize, usize)>,
+    /// The same of the records after the points: the EVLRs, or in 1.3 the waveform packets.
+    later: Vec<(usize, usize)>,
 }
 
 impl Whole {
@@ -89,8 +93,13 @@ impl Whole {
     /// hundred bytes, or as long as their fields allow: in half of those what a u16 states is often at
     /// its end, and half have hundreds of VLRs.
     pub fn make(&mut self, i: u64, long: bool) {
+        self.make_of(i, long, &KINDS)
+    }
+
+    /// The same of some versions and formats.
+    pub fn make_of(&mut self, i: u64, long: bool, kinds: &[(u8, u8)]) {
         let mut random = Lcg::new(i | u64::from(long) << 63);
-        (self.minor, self.format) = KINDS[(i % KINDS.len() as u64) as usize];
+        (self.minor, self.format) = kinds[(i % kinds.len() as u64) as usize];
         let standard = standard_size(self.minor.into()) as usize;
         let format_length = POINT_BYTES[usize::from(self.format)] as usize;
         let hundreds = long && random.one_in(2);
@@ -115,10 +124,15 @@ impl Whole {
         self.points = random.below(6);
         self.point_end = self.point_offset + self.points as usize * self.record_length;
         let mut at = self.point_end + some(&mut random, 6, most);
-        self.evlrs.clear();
-        for _ in 0..if self.minor == 4 { random.below(4) } else { 0 } {
+        self.later.clear();
+        let later = match self.minor {
+            3 => random.below(2),
+            4 => random.below(4),
+            _ => 0,
+        };
+        for _ in 0..later {
             let length = some(&mut random, 16, 2 * most);
-            self.evlrs.push((at, length));
+            self.later.push((at, length));
             at += 60 + length;
         }
         at += some(&mut random, 9, most);
@@ -138,15 +152,17 @@ impl Whole {
         for float in 0..12 {
             self.put(131 + 8 * float, 8, random.f64_bits());
         }
-        if self.minor == 4 {
-            self.fill_large(&mut random);
+        match self.minor {
+            3 => self.fill_packets(&mut random),
+            4 => self.fill_large(&mut random),
+            _ => {}
         }
         for k in 0..self.vlrs.len() {
             let (at, length) = self.vlrs[k];
             self.put(at + 20, 2, length as u64);
         }
-        for k in 0..self.evlrs.len() {
-            let (at, length) = self.evlrs[k];
+        for k in 0..self.later.len() {
+            let (at, length) = self.later[k];
             self.put(at + 20, 8, length as u64);
         }
         let format = Format {
@@ -157,6 +173,20 @@ impl Whole {
         for record in points.chunks_exact_mut(self.record_length) {
             records::fill(format::word(format), random.long(), record);
         }
+    }
+
+    /// What 1.3 says of waveform packets: bit 1 of global encoding and a start where they are in the file,
+    /// else one without the other. In 1.4 either is anything, and in older versions the bit is.
+    fn fill_packets(&mut self, random: &mut Lcg) {
+        let encoding = u64::from(random.word() as u16);
+        let (encoding, start) = match (self.later.first(), random.below(4)) {
+            (Some(&(start, _)), _) => (encoding | 2, start as u64),
+            (None, 0 | 1) => (encoding | 2, 0),
+            (None, 2) => (encoding & !2, self.bytes.len() as u64),
+            (None, _) => (encoding & !2, random.long()),
+        };
+        self.put(6, 2, encoding);
+        self.put(227, 8, start);
     }
 
     /// What only 1.4 has: the large count, which counts where the legacy count is zero, and the EVLR
@@ -170,8 +200,8 @@ impl Whole {
                 self.put(247, 8, self.points);
             }
         }
-        let (start, count) = match (self.evlrs.first(), random.below(4)) {
-            (Some(&(start, _)), _) => (start as u64, self.evlrs.len() as u64),
+        let (start, count) = match (self.later.first(), random.below(4)) {
+            (Some(&(start, _)), _) => (start as u64, self.later.len() as u64),
             (None, 0) => (0, random.long()),
             (None, 1) => (random.long(), 0),
             (None, 2) => (self.bytes.len() as u64, 0),
@@ -188,7 +218,7 @@ impl Whole {
 
     /// Allowances on both sides of what the file has of records, and at the ends.
     pub fn allowances(&self) -> [u64; 7] {
-        let exact = (self.vlrs.len() + self.evlrs.len()) as u64;
+        let exact = (self.vlrs.len() + self.later.len()) as u64;
         [
             0,
             1,
@@ -230,7 +260,7 @@ impl Whole {
         ]
         .map(|n| n as u64);
         let vlrs = self.vlrs.len() as u64;
-        let evlrs = self.evlrs.len() as u64;
+        let later = self.later.len() as u64;
         // As many points as fit, and record lengths with which they do.
         let fit = (end - offset) / length;
         let fitting = (end - offset) / self.points.max(1);
@@ -269,19 +299,16 @@ impl Whole {
             &[self.points, fit, TWO_32 / length, TWO_32 / length + fit],
             &[1 << 16 | self.points],
         );
+        field(6, 2, &[], &[2, 4, 6, 0xfffd]);
+        let first = self.later.first().map_or(end, |&(at, _)| at as u64);
+        let starts = [point_end, first, end, end - 60, 0u64.wrapping_sub(60)];
+        let wrapping = [1 << 32, 1 << 63].map(|n| n + first);
         if self.minor >= 3 {
-            field(227, 8, &[end], &[]);
+            field(227, 8, &starts, &wrapping);
         }
         if self.minor == 4 {
-            let first = self.evlrs.first().map_or(end, |&(at, _)| at as u64);
-            let wrapping = [1 << 32, 1 << 63].map(|n| n + first);
-            field(
-                235,
-                8,
-                &[point_end, first, end, end - 60, 0u64.wrapping_sub(60)],
-                &wrapping,
-            );
-            field(243, 4, &[evlrs], &[1 << 16 | evlrs]);
+            field(235, 8, &starts, &wrapping);
+            field(243, 4, &[later], &[1 << 16 | later]);
             let wraps = u64::MAX / length + 1;
             field(
                 247,
@@ -312,7 +339,7 @@ impl Whole {
                 &[end - head_end],
             );
         }
-        for &(at, length) in &self.evlrs {
+        for &(at, length) in &self.later {
             let (head_end, length) = (at as u64 + 60, length as u64);
             let (wraps, wraps_here) = (0u64.wrapping_sub(60), 0u64.wrapping_sub(head_end));
             field(
@@ -321,6 +348,55 @@ impl Whole {
                 &[length, end - head_end, wraps, wraps_here, TWO_32],
                 &[1 << 16 | length, TWO_32 | length, 1 << 63 | length],
             );
+        }
+    }
+
+    /// What the rules look at of waveform packets, on both sides of every edge, each beside each: the global
+    /// encoding, with bit 1 and without; the start; and in the head of a record that starts there the
+    /// length, with which the record ends beside the file's end, or a sum of it wraps.
+    pub fn packets(&self, random: &mut Lcg, patches: &mut Vec<[Patch; 3]>) {
+        patches.clear();
+        let patch = |at, width, value| Patch { at, width, value };
+        let near = |n: u64| [n.wrapping_sub(1), n, n.wrapping_add(1)];
+        let (point_end, end) = (self.point_end as u64, self.bytes.len() as u64);
+        let first = self.later.first().map_or(end, |&(at, _)| at as u64);
+        let anywhere = point_end + random.below(end - point_end + 1);
+        let wraps = 0u64.wrapping_sub(60);
+        let far = [0, 1, 227, 1 << 32 | first, 1 << 63 | first, u64::MAX];
+        for start in [point_end, first, anywhere, end - 60, end, wraps]
+            .into_iter()
+            .flat_map(near)
+            .chain(far)
+        {
+            let fitting = end.wrapping_sub(start).wrapping_sub(60);
+            let [below, fits, above] = near(fitting);
+            let lengths = [
+                fits,
+                below,
+                above,
+                0,
+                1,
+                1 << 32 | fits,
+                1 << 63 | fits,
+                wraps,
+                wraps.wrapping_sub(start),
+                u64::MAX,
+            ];
+            // Outside of what follows the points there is no room for a length, and the start is all.
+            let starts = patch(227, 8, start);
+            let room = start >= point_end && start <= end - 28;
+            for length in lengths
+                .into_iter()
+                .take(if room { lengths.len() } else { 1 })
+            {
+                let states = match room {
+                    true => patch(start as usize + 20, 8, length),
+                    false => starts,
+                };
+                for encoding in [2, 3, 0xffff, 0, 4, 0xfffd] {
+                    patches.push([patch(6, 2, encoding), starts, states]);
+                }
+            }
         }
     }
 
@@ -333,9 +409,10 @@ impl Whole {
         };
         let place = match random.below(18) {
             0..=2 => Some(94 + random.below(17)),
+            3 if self.minor == 3 => Some([6, 227 + random.below(8)][random.below(2) as usize]),
             3 if self.minor == 4 => Some(235 + random.below(20)),
             4 => length(&self.vlrs, random, 2),
-            5 => length(&self.evlrs, random, 8),
+            5 => length(&self.later, random, 8),
             _ => None,
         };
         place.unwrap_or_else(|| random.below(end)) as usize

@@ -2,8 +2,8 @@
 //! length as a little-endian u32, and `stdout` what document 01's parts program prints for each.
 //!
 //! All lines are those of `file_model`, and what refuses each file is stated here besides. Files have
-//! bytes without pattern wherever the rules don't look. Every refusal from 1 to 14 is among them but
-//! 10, which no input of that program can cause: 65,536 bytes do not hold 1,300 records, since these
+//! bytes without pattern wherever the rules don't look. Every refusal from 1 to 14, and 35, is among them
+//! but 10, which no input of that program can cause: 65,536 bytes do not hold 1,300 records, since these
 //! have 54 bytes or more.
 
 use crate::{
@@ -19,13 +19,14 @@ use std::{io, path::Path};
 /// The most that the program reads.
 const ROOM: usize = 65_536;
 
-/// "Kinds are header, vlr, gap, points, evlr", in the order of their numbers.
-const KIND_NAMES: [&str; 5] = ["header", "vlr", "gap", "points", "evlr"];
+/// "Kinds are header, vlr, gap, points, evlr", in the order of their numbers, and then `waveform`.
+const KIND_NAMES: [&str; 6] = ["header", "vlr", "gap", "points", "evlr", "waveform"];
 
 /// Where a number of the header stands, and how many bytes it has.
 type Field = (usize, usize);
 
 const SIGNATURE: Field = (0, 4);
+const GLOBAL_ENCODING: Field = (6, 2);
 const MAJOR: Field = (24, 1);
 const MINOR: Field = (25, 1);
 const HEADER_SIZE: Field = (94, 2);
@@ -34,6 +35,7 @@ const VLRS: Field = (100, 4);
 const FORMAT: Field = (104, 1);
 const RECORD_LENGTH: Field = (105, 2);
 const LEGACY_POINTS: Field = (107, 4);
+const WAVEFORM_START: Field = (227, 8);
 const EVLR_START: Field = (235, 8);
 const EVLRS: Field = (243, 4);
 const POINTS: Field = (247, 8);
@@ -55,7 +57,8 @@ struct Make {
     extra: usize,
     points: usize,
     gap_after_points: usize,
-    evlrs: &'static [usize],
+    /// The same of the EVLRs, or in 1.3 of the waveform packets, which are one.
+    later: &'static [usize],
     rest: usize,
 }
 
@@ -86,22 +89,22 @@ impl Make {
         self.point_offset() + self.points * self.record_length()
     }
 
-    /// Where the `k`-th EVLR starts, likewise.
-    fn evlr(&self, k: usize) -> usize {
-        let before: usize = self.evlrs[..k].iter().map(|data| 60 + data).sum();
+    /// Where the `k`-th record after the points starts, likewise.
+    fn later(&self, k: usize) -> usize {
+        let before: usize = self.later[..k].iter().map(|data| 60 + data).sum();
         self.point_end() + self.gap_after_points + before
     }
 
     fn end(&self) -> usize {
-        self.evlr(self.evlrs.len()) + self.rest
+        self.later(self.later.len()) + self.rest
     }
 
     fn vlr_length(&self, k: usize) -> Field {
         (self.vlr(k) + 20, 2)
     }
 
-    fn evlr_length(&self, k: usize) -> Field {
-        (self.evlr(k) + 20, 8)
+    fn later_length(&self, k: usize) -> Field {
+        (self.later(k) + 20, 8)
     }
 
     /// The whole file.
@@ -117,21 +120,29 @@ impl Make {
         put(&mut file, FORMAT, self.format.into());
         put(&mut file, RECORD_LENGTH, self.record_length() as u64);
         put(&mut file, LEGACY_POINTS, self.points as u64);
-        if self.minor == 4 {
-            let start = if self.evlrs.is_empty() {
-                0
-            } else {
-                self.evlr(0)
-            };
-            put(&mut file, EVLR_START, start as u64);
-            put(&mut file, EVLRS, self.evlrs.len() as u64);
-            put(&mut file, POINTS, self.points as u64);
+        let start = match self.later {
+            [] => 0,
+            _ => self.later(0) as u64,
+        };
+        match self.minor {
+            // bit 1 of global encoding says that packets are in the file; all else that stands there may stay
+            3 if start == 0 => file[6] &= !2,
+            3 => {
+                file[6] |= 2;
+                put(&mut file, WAVEFORM_START, start);
+            }
+            4 => {
+                put(&mut file, EVLR_START, start);
+                put(&mut file, EVLRS, self.later.len() as u64);
+                put(&mut file, POINTS, self.points as u64);
+            }
+            _ => {}
         }
         for (k, &data) in self.vlrs.iter().enumerate() {
             put(&mut file, self.vlr_length(k), data as u64);
         }
-        for (k, &data) in self.evlrs.iter().enumerate() {
-            put(&mut file, self.evlr_length(k), data as u64);
+        for (k, &data) in self.later.iter().enumerate() {
+            put(&mut file, self.later_length(k), data as u64);
         }
         file
     }
@@ -156,7 +167,7 @@ impl Make {
 struct List {
     files: u64,
     /// Which numbers were answered.
-    answered: [bool; 15],
+    answered: Vec<u64>,
     stdin: Vec<u8>,
     stdout: String,
     found: Found,
@@ -170,7 +181,7 @@ impl List {
         self.stdin.extend((file.len() as u32).to_le_bytes());
         self.stdin.extend(file);
         let answer = self.found.check(file, MANY);
-        self.answered[answer.number as usize] = true;
+        self.answered.push(answer.number);
         let text = match answer.number {
             0 => {
                 self.found.parts(file, &mut self.parts);
@@ -216,9 +227,11 @@ pub fn compare(tally: &mut Tally, folder: &Path, write: bool) -> io::Result<()> 
     vlrs(&mut list);
     points(&mut list);
     evlrs(&mut list);
+    packets(&mut list);
     order(&mut list);
-    for (number, answered) in list.answered.iter().enumerate() {
-        assert_eq!(*answered, number != 10, "refusal {number}");
+    for number in (0..=14).chain([35]) {
+        let answered = list.answered.contains(&number);
+        assert_eq!(answered, number != 10, "refusal {number}");
     }
     assert!(
         list.stdin.len() < ROOM,
@@ -248,9 +261,8 @@ fn described(list: &mut List) {
 }
 
 /// Every version with every format that it has: points up to the file's end, with extra bytes or none.
-/// Where a version is the first to have the format, also a record length one below the format's, and
-/// before 1.4 the last byte missing. Each version without points, and 1.0 with the two bytes that
-/// announce its points.
+/// Where a version is the first to have the format, also a record length one below the format's. Each
+/// version without points, and 1.0 with the two bytes that announce its points.
 fn kinds(list: &mut List) {
     for (k, (minor, format)) in KINDS.into_iter().enumerate() {
         let make = Make {
@@ -265,9 +277,6 @@ fn kinds(list: &mut List) {
             let short = (make.record_length() - make.extra - 1) as u64;
             let header = &make.with(&[(RECORD_LENGTH, short)])[..make.header_size()];
             list.refused([8, short, 0], header);
-            if minor < 4 {
-                list.refused([12, make.points as u64, 0], &make.cut(make.end() - 1));
-            }
         }
     }
     for minor in 0..5 {
@@ -296,7 +305,7 @@ const ALL: Make = Make {
     extra: 4,
     points: 2,
     gap_after_points: 3,
-    evlrs: &[2, 0],
+    later: &[2, 0],
     rest: 4,
 };
 
@@ -313,7 +322,7 @@ fn parts(list: &mut List) {
         |to, from| to.gap_before_points = from.gap_before_points,
         |to, from| to.points = from.points,
         |to, from| to.gap_after_points = from.gap_after_points,
-        |to, from| to.evlrs = from.evlrs,
+        |to, from| to.later = from.later,
     ];
     for thing in things {
         let (mut without, mut alone) = (ALL, bare);
@@ -454,7 +463,7 @@ fn vlrs(list: &mut List) {
         minor: 2,
         vlrs: &[2, 0, 1],
         gap_before_points: 53,
-        points: 3,
+        points: 1,
         ..Make::default()
     };
     let last = make.vlr_length(2);
@@ -502,7 +511,7 @@ fn points(list: &mut List) {
     for count in [3, 1 << 27, u32::MAX.into()] {
         list.refused([12, count, 0], &make.with(&[(LEGACY_POINTS, count)]));
     }
-    for count in [3, 1 << 32, (1 << 59) - 1, 1 << 59, u64::MAX] {
+    for count in [3, 1 << 32, 1 << 59, u64::MAX] {
         let file = make.with(&[(LEGACY_POINTS, 0), (POINTS, count)]);
         list.refused([12, count, 0], &file);
     }
@@ -519,12 +528,12 @@ fn evlrs(list: &mut List) {
         minor: 4,
         vlrs: &[1],
         points: 1,
-        evlrs: &[3, 4],
+        later: &[3, 4],
         ..Make::default()
     };
     let (point_end, end) = (make.point_end() as u64, make.end() as u64);
     list.accepted(&make.whole());
-    for start in [1, point_end - 1, end + 1, u64::MAX] {
+    for start in [point_end - 1, end + 1, u64::MAX] {
         list.refused([14, start, 0], &make.with(&[(EVLR_START, start)]));
     }
     // at the file's length, and where the head doesn't end in the file, or just ends
@@ -536,15 +545,59 @@ fn evlrs(list: &mut List) {
     list.accepted(&make.with(&[start, (EVLRS, 1), (length, 0)]));
     list.refused([13, 1, 2], &make.with(&[start, (EVLRS, 1), (length, 1)]));
     // the last of them, also where its end would wrap to 0
-    let wraps = u64::MAX - 59 - make.evlr(1) as u64;
+    let wraps = u64::MAX - 59 - make.later(1) as u64;
     for data in [5, 1 << 32 | 4, wraps, u64::MAX] {
-        list.refused([13, data, 3], &make.with(&[(make.evlr_length(1), data)]));
+        list.refused([13, data, 3], &make.with(&[(make.later_length(1), data)]));
     }
     list.refused([13, 0, 4], &make.with(&[(EVLRS, 3)]));
-    list.refused([13, 3, 2], &make.cut(make.evlr(1) - 1));
+    list.refused([13, 3, 2], &make.cut(make.later(1) - 1));
     // without VLRs an EVLR is the first record
     let alone = Make { vlrs: &[], ..make };
     list.refused([13, 4, 2], &alone.cut(alone.end() - 1));
+}
+
+/// Document 02, No. 11: a waveform start on both sides of where it may be, packets that end after the
+/// file's end or begin at it, numbers after the VLRs'; and headers that say one thing of waveforms without
+/// another, or say it in 1.4, where it is no part.
+fn packets(list: &mut List) {
+    let make = Make {
+        minor: 3,
+        points: 1,
+        later: &[2],
+        ..Make::default()
+    };
+    let (point_end, end) = (make.point_end() as u64, make.end() as u64);
+    list.accepted(
+        &Make {
+            vlrs: &[1],
+            gap_before_points: 1,
+            gap_after_points: 2,
+            rest: 4,
+            ..make
+        }
+        .whole(),
+    );
+    for start in [point_end - 1, end + 1] {
+        list.refused([35, 0, 0], &make.with(&[(WAVEFORM_START, start)]));
+    }
+    list.refused([13, 0, 1], &make.with(&[(WAVEFORM_START, end)]));
+    list.refused([13, 2, 1], &make.cut(make.end() - 1));
+    let wraps = u64::MAX - 59 - make.later(0) as u64;
+    let after_vlr = Make { vlrs: &[0], ..make };
+    let length = after_vlr.later_length(0);
+    list.refused([13, wraps, 2], &after_vlr.with(&[(length, wraps)]));
+    list.refused(
+        [12, 99, 0],
+        &make.with(&[(LEGACY_POINTS, 99), (WAVEFORM_START, 1)]),
+    );
+    for says in [(GLOBAL_ENCODING, 4), (WAVEFORM_START, 0)] {
+        list.accepted(&make.with(&[says]));
+    }
+    let large = Make {
+        minor: 4,
+        ..Make::default()
+    };
+    list.accepted(&large.with(&[(GLOBAL_ENCODING, 2), (WAVEFORM_START, 1)]));
 }
 
 /// A file in which everything is wrong, and what is refused as one thing after another is mended.
@@ -553,7 +606,7 @@ fn order(list: &mut List) {
         minor: 4,
         vlrs: &[1],
         points: 1,
-        evlrs: &[2],
+        later: &[2],
         ..Make::default()
     };
     let wrong = [
@@ -566,7 +619,7 @@ fn order(list: &mut List) {
         (make.vlr_length(0), 65_535),
         (LEGACY_POINTS, 99),
         (EVLR_START, 1),
-        (make.evlr_length(0), 1 << 40),
+        (make.later_length(0), 1 << 40),
     ];
     let told = [
         [2, 0, 0],
