@@ -6,6 +6,7 @@ pub mod Waveform
 -- laws
 pub mod Laws
 pub mod Counts
+pub mod Room
 -- theorems
 pub mod Theorems
 -- laws of accepted files, by the theorems

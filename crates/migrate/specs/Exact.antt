@@ -94,34 +94,34 @@ module _ (up : Bool) (allowance : ℕ) (s d : List ℕ) where
     no-room : {p : Plan} {m : ℕ} → Placed → runVerdict up (outlineOf h) s ≡ verdict.Goes p m → length d < newLength up h s → RefusedFor (NoRoom (newLength up h s)) 0
 
 -- the record length, which the header tests and the conversion would refuse as well
-abbrev eachFor : Bool → Header → Bool
+abbrev pub eachFor : Bool → Header → Bool
 eachFor true h = ltb (h .«point_data_record_length» + 2) (2 ^ 16)
 eachFor false h = leb 2 (h .«point_data_record_length»)
 
-abbrev eachTo : Bool → Header → ℕ
+abbrev pub eachTo : Bool → Header → ℕ
 eachTo true h = h .«point_data_record_length» + 2
 eachTo false h = h .«point_data_record_length»
 
 -- the header's tests, either way
-abbrev lastOf : Bool → Header → Bool → Goes
+abbrev pub lastOf : Bool → Header → Bool → Goes
 lastOf up h b = cond b goes.Yes (goes.Refused (RecordLength (eachTo up h)))
 
-abbrev offsetOf : Bool → Header → Bool → Goes
+abbrev pub offsetOf : Bool → Header → Bool → Goes
 offsetOf up h b = cond b (lastOf up h (eachFor up h)) (goes.Refused (PointOffset (h .«offset_to_point_data»)))
 
-abbrev sizeOf : Bool → Header → Bool → Goes
+abbrev pub sizeOf : Bool → Header → Bool → Goes
 sizeOf up h b = cond b (offsetOf up h (offsetFor up h)) (goes.Refused (HeaderSize (h .«header_size»)))
 
-abbrev countsOf : Bool → Header → Bool → Goes
+abbrev pub countsOf : Bool → Header → Bool → Goes
 countsOf up h b = cond b (sizeOf up h (sizeFor up h)) (goes.Refused CountsTooLargeForOld)
 
-abbrev aloneOf : Bool → Header → Bool → Goes
+abbrev pub aloneOf : Bool → Header → Bool → Goes
 aloneOf up h b = cond b (goes.Refused EvlrsOrWaveforms) (countsOf up h (countsFor up h))
 
-abbrev kindOf : Bool → Header → Bool → Goes
+abbrev pub kindOf : Bool → Header → Bool → Goes
 kindOf up h b = cond b (aloneOf up h (beside h)) (goes.Refused OtherVersionOrFormat)
 
-goes-tests : (up : Bool) (h : Header) → goesOf up h ≡ kindOf up h (isFor up h)
+pub goes-tests : (up : Bool) (h : Header) → goesOf up h ≡ kindOf up h (isFor up h)
 unfolding newGoes oldGoes
 goes-tests true h = refl
 goes-tests false h = refl

@@ -13,6 +13,7 @@ pub mod Again
 pub mod Answer
 pub mod Back
 pub mod Exact
+pub mod Never
 pub mod Found
 -- theorems
 pub mod Theorems

@@ -10,6 +10,7 @@ use lib.ListN.{length, take, drop}
 use Rattle.le.specs.Le as le
 use Rattle.refusal.specs.declared.Refusal.{Refusal}
 use Rattle.refusal.specs.declared.Refusal.the-variants.{NoRoom}
+use Rattle.refusal.specs.Table.{numberOf}
 use Rattle.header.specs.declared.Header.{Header}
 use Rattle.header.specs.Judged.{readOf, paddingOf}
 use Rattle.outline.specs.declared.Outline.{Outline}
@@ -32,6 +33,7 @@ use Rattle.migrate.specs.Again.{accepted-new}
 use Rattle.migrate.specs.Answer.{Going, same-refusal, with-room, without-room, asked-bytes, asked-refusal, plan, goes-by, goer-is, is-new, past}
 use Rattle.migrate.specs.Found.{KeptFields, kept-fields, CountsUp, counts-new, CountsDown, counts-old, converted-points, same-points}
 use Rattle.migrate.specs.Back.{comes-back, comes-only}
+use Rattle.migrate.specs.Never.{file-never-22}
 use Rattle.migrate.specs.Exact.{RefusedFor, refused-then, then-refused, roomless-then}
 
 -- what a file says of itself, and where its parts lie by that
@@ -156,6 +158,10 @@ module _ (up : Bool) (allowance : ℕ) (s d : List ℕ) where
       → (fileVerdict up allowance s ≡ verdict.Refused why j)
       ⊎ ((p : Plan) × (n : ℕ) × (fileVerdict up allowance s ≡ verdict.Goes p n) × (why ≡ NoRoom n) × (j ≡ 0) × (length d < n))
   refusal-was-asked w = asked-refusal up allowance s d w .0
+
+  -- "22 .. only from the writing call".
+  pub never-22 : {why : Refusal} {j : ℕ} → fileVerdict up allowance s ≡ verdict.Refused why j → numberOf why ≡ 22 → ⊥
+  never-22 = file-never-22 up allowance s
 
   -- "A refusal writes nothing into lent memory."
   pub untouched : {why : Refusal} {j : ℕ} {e : List ℕ} → migratedOf up allowance s d ≡ (Refused why j, e) → e ≡ d
