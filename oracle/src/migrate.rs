@@ -85,8 +85,8 @@ const FEW: Lot = Lot {
 };
 
 /// Every number that the calls can answer with: formats 6 and 7 have no near infrared.
-const NUMBERS: [usize; 25] = [
-    0, 1, 2, 3, 4, 5, 6, 7, 8, 9, 10, 11, 12, 13, 14, 15, 16, 17, 18, 19, 21, 22, 32, 33, 34,
+const NUMBERS: [usize; 26] = [
+    0, 1, 2, 3, 4, 5, 6, 7, 8, 9, 10, 11, 12, 13, 14, 15, 16, 17, 18, 19, 21, 22, 32, 33, 34, 35,
 ];
 
 /// How often each must have been answered, or else the run has not tested it.
