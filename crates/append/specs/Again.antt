@@ -7,6 +7,7 @@ use native.Mathlib.Omega.{arith}
 use borrow.Author.Tests.{ltb-true, ltb-false}
 use lib.Dec.{ltb}
 use Rattle.refusal.specs.declared.Refusal.{Refusal}
+use Rattle.store.specs.Elsewhere.{Elsewhere}
 use Rattle.header.specs.Judged.{readOf}
 use Rattle.rules.specs.declared.Checked.the-variants as checked
 use Rattle.file.specs.Rules.{checkedOf}
@@ -17,7 +18,7 @@ use Rattle.offer.specs.Offer.{sweepOf, offerOf}
 use Rattle.offer.specs.Laws.{Adds, adds, Stands, already-in}
 use Rattle.sectors.specs.Sectors.{storesOf, afterStores}
 use Rattle.sectors.specs.Laws.{tail-free}
-use Rattle.sectors.specs.After.{Elsewhere, stores-are, after-elsewhere}
+use Rattle.sectors.specs.After.{stores-are, after-elsewhere}
 use Rattle.append.specs.declared.Appended.{Appended}
 use Rattle.append.specs.declared.Appended.the-variants.{Added, AlreadyIn, Refused}
 use Rattle.append.specs.Append.{appendedBy, appendedOf}

@@ -14,6 +14,7 @@ use denote.Ref.{RefT, now}
 use Rattle.refusal.specs.declared.Refusal.the-variants.{Index}
 use Rattle.le.specs.Le.{Bytes}
 use Rattle.fields.specs.Table.{part}
+use Rattle.store.specs.Elsewhere.{Elsewhere}
 use Rattle.header.specs.declared.HeaderRead.{HeaderRead}
 use Rattle.header.specs.Judged.{readOf}
 use Rattle.outline.specs.declared.Outline.{Outline}
@@ -26,7 +27,6 @@ use Rattle.walker.specs.declared.Walked.the-variants.{Refused}
 use Rattle.offer.specs.declared.Sweep.{Sweep}
 use Rattle.offer.specs.Offer.{recordLength, endIn}
 use Rattle.offer.specs.Laws.{Adds}
-use Rattle.sectors.specs.After.{Elsewhere}
 use Rattle.append.specs.Adding.{holds, size-wide, free-front, free-read, free-accepted}
 use Rattle.append.specs.Final.{Bounds, full, full-grown, full-outline, full-accepted}
 use Rattle.append.specs.Points.{pointIn, SamePoint, PointOf, OldPoints, OldThenNew, nthAt, record-within, point-there, none-behind}

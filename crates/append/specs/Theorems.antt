@@ -11,6 +11,7 @@ use lib.ListN.{length, take}
 use denote.Ref.{RefT, now}
 use Rattle.le.specs.Le.{Bytes}
 use Rattle.fields.specs.Table.{All}
+use Rattle.store.specs.Elsewhere.{Elsewhere}
 use Rattle.header.specs.Judged.{readOf}
 use Rattle.outline.specs.Outline.{outlineOf}
 use Rattle.rules.specs.declared.Checked.the-variants.{Accepted}
@@ -23,7 +24,7 @@ use Rattle.offer.specs.Sweeps.{sweep-at, sweep-bytes}
 use Rattle.offer.specs.Tail.{same-offer}
 use Rattle.sectors.specs.Sectors.{pointStores, storesOf, sectorOf, storedOf, afterStores}
 use Rattle.sectors.specs.Laws.{OneSector}
-use Rattle.sectors.specs.After.{Elsewhere, someStores, stores-are, one-store, stored-touched, after-elsewhere, some-elsewhere, after-made, some-made}
+use Rattle.sectors.specs.After.{someStores, stores-are, one-store, stored-touched, after-elsewhere, some-elsewhere, after-made, some-made}
 use Rattle.append.specs.declared.Appended.{Appended}
 use Rattle.append.specs.declared.Appended.the-variants.{Added, AlreadyIn}
 use Rattle.append.specs.Append.{appendedOf}

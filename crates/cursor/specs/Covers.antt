@@ -25,7 +25,7 @@ covers-both : (from mid to : ℕ) (ps qs : List Part) → Covers from mid ps →
 covers-both from mid to [] qs e h = subst (λ (n : ℕ). Covers n to qs) (sym e) h
 covers-both from mid to (p ∷ ps) qs (e, h) h′ = (e, covers-both (from + p .length) mid to ps qs h h′)
 
-covers-gap : (from to : ℕ) → from ≤ to → Covers from to (gap from to)
+pub covers-gap : (from to : ℕ) → from ≤ to → Covers from to (gap from to)
 unfolding gap
 covers-gap from to le = go (ltb from to) refl
   where
@@ -38,7 +38,7 @@ module _ (s : List ℕ) (k : Kind) (extended : Bool) where
   others : (n at to : ℕ) → Run extended n (drop (recordSize extended (between at to s)) (between at to s)) → Run extended n (between (at + recordSize extended (between at to s)) to s)
   others n at to r = subst (Run extended n) (drop-between (recordSize extended (between at to s)) at to s) r
 
-  covers-records : (n at to : ℕ) → at ≤ to → Run extended n (between at to s) → Covers at to (recordParts k extended n at to s)
+  pub covers-records : (n at to : ℕ) → at ≤ to → Run extended n (between at to s) → Covers at to (recordParts k extended n at to s)
   unfolding recordParts
   covers-records zero at to le r = covers-gap at to le
   covers-records (suc n) at to le (here, r) =

@@ -21,7 +21,7 @@ unfolding partsOf
 header-first o s = refl
 
 module _ (P : Part → Type 0) where
-  each-both : (ps qs : List Part) → Each P ps → Each P qs → Each P (ps ++ qs)
+  pub each-both : (ps qs : List Part) → Each P ps → Each P qs → Each P (ps ++ qs)
   each-both [] qs a b = b
   each-both (p ∷ ps) qs (h, a) b = (h, each-both ps qs a b)
 

@@ -8,6 +8,7 @@ pub mod Stays
 pub mod Accepted
 pub mod Covers
 pub mod Each
+pub mod Kept
 pub mod Started
 -- theorems
 pub mod Theorems

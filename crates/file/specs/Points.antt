@@ -4,6 +4,7 @@ use mathlib.Core.Path.{_≡_, ap, _∙_}
 use mathlib.Core.Bool.{false}
 use mathlib.Core.List.{List}
 use native.Mathlib.Omega.{arith}
+use lib.Dec.{leb}
 use Rattle.le.specs.Le.{Bytes}
 use Rattle.format.specs.declared.Format.{Format}
 use Rattle.format.specs.declared.NewFormat.{NewFormat}
@@ -12,7 +13,7 @@ use Rattle.format.specs.declared.FormatLen.the-variants as len
 use Rattle.format.specs.Format.{plain, withExtra}
 use Rattle.format.specs.Codes.{coded, formatOf}
 use Rattle.format.specs.Fields.{recordBytes, lenOf}
-use Rattle.format.specs.Laws.{code-known}
+use Rattle.format.specs.Laws.{code-known, coded-extended}
 use Rattle.format.specs.Length.{len-told}
 use Rattle.header.specs.Judged.{readOf}
 use Rattle.header.specs.Answers.{record-length-fits}
@@ -47,6 +48,10 @@ module _ (allowance : ℕ) (s : List ℕ) (h : Holds allowance s) where
   pub format-is : pointFormat o ≡ withExtra (o .«point_data_record_length» - formatBytes code) (coded code false)
   unfolding pointFormat formatBytes
   format-is = ap (filled (o .«point_data_record_length»)) (code-known code (omega (arith, h .parts .format)))
+
+  -- extended from 6 on,
+  pub format-extended : pointFormat o .«is_extended» ≡ leb 6 code
+  format-extended = ap (λ (f : Format). f .«is_extended») format-is ∙ coded-extended code false
 
   -- and its record is as long as the header says,
   pub format-long : recordBytes (pointFormat o) ≡ o .«point_data_record_length»

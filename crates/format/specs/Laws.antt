@@ -6,6 +6,7 @@ use mathlib.Core.List.{List, [], _∷_, _++_}
 use native.Mathlib.Nat.{add-zero}
 use native.Mathlib.Omega.{arith}
 use borrow.Author.Tests.{lt-ltb}
+use lib.Dec.{leb}
 use Rattle.fields.specs.Table.{total, Follow}
 use Rattle.fields.specs.Total.{total-append}
 use Rattle.format.specs.declared.Format.{Format}
@@ -21,6 +22,11 @@ use Rattle.format.specs.Fields.{only, restOf, fieldsOf, sizeOf, placeOf,
 pub code-known : (n : ℕ) → n < 11 → formatOf n ≡ new.Is (coded n false)
 unfolding formatOf
 code-known n h = rw (lt-ltb _ _ h)
+
+-- and is extended from 6 on
+pub coded-extended : (n : ℕ) (compressed : Bool) → coded n compressed .«is_extended» ≡ leb 6 n
+unfolding coded
+coded-extended n compressed = refl
 
 -- what is there or not is at most what is there
 pub when-le : (b : Bool) (n : ℕ) → cond b n 0 ≤ n

@@ -1,12 +1,13 @@
 -- Laws of little-endian numbers, each once over the width.
 use Prim.Native.Nat.{ℕ, zero, suc, _+_, _-_, _*_, _/_, _%_, _^_, _<_, _≤_}
 use mathlib.Core.Path.{_≡_, refl, ap, sym, _∙_}
+use mathlib.Core.Logic.{_⊎_, inl, inr}
 use mathlib.Core.List.{List, [], _∷_, _++_, append-nil}
 use native.Mathlib.Nat.{zero-add, suc-add, sub-zero, zero-sub, suc-sub-suc, pow-succ', mul-assoc, add-assoc, add-zero, div-div-eq-div-mul}
 use native.Mathlib.Numerals.{one-add}
 use native.Mathlib.Omega.{arith}
-use lib.ListN.{getD, take, drop, length, length-drop, drop-of-length-le}
-use lib.Seq.{drop-cons, drop-drop, getD-drop, getD-take, take-add, take-take, take-nil, take-at, drop-at}
+use lib.ListN.{getD, set, take, drop, length, length-drop, drop-of-length-le}
+use lib.Seq.{drop-cons, drop-drop, getD-drop, getD-take, take-add, take-take, take-nil, take-set-le, drop-set-lt, take-at, drop-at}
 use Rattle.le.specs.Le.{le, num, bytes, bytesFrom, Bytes}
 
 -- the bytes of a number are those of its low part and of its high part
@@ -145,6 +146,12 @@ pub num-take : (w at : ℕ) (s : List ℕ) (n : ℕ) → at + w ≤ n → num w 
 unfolding num
 num-take w at s n h =
     le-same w (drop at (take n s)) (drop at s) (λ k l. rw (getD-drop at (take n s), getD-drop at s) (getD-take n s (at + k) 0 (omega arith)))
+
+-- nor does a byte that is set beside them, before or past
+pub num-set : (w at : ℕ) (s : List ℕ) (p x : ℕ) → (at + w ≤ p) ⊎ (p < at) → num w at (set s p x) ≡ num w at s
+unfolding num
+num-set w at s p x (inl h) = sym (num-take w at (set s p x) p h) ∙ ap (num w at) (take-set-le p s p x (omega arith)) ∙ num-take w at s p h
+num-set w at s p x (inr h) = ap (le w) (drop-set-lt at s p x h)
 
 -- the number at a place where its bytes stand
 pub num-bytes : (w at : ℕ) (s : List ℕ) (x : ℕ) → x < 256 ^ w → take w (drop at s) ≡ bytes w x → num w at s ≡ x

@@ -2,7 +2,7 @@
 use Prim.Native.Nat.{ℕ, zero, suc, _<_}
 use mathlib.Core.List.{List, [], _∷_, _++_}
 use native.Mathlib.Omega.{arith}
-use lib.ListN.{replicate}
+use lib.ListN.{replicate, set}
 use Rattle.le.specs.Le.{bytesFrom, bytes, Bytes}
 
 pub none-made : Bytes []
@@ -28,3 +28,9 @@ from k (suc w) x = one-made _ (bytesFrom (suc k) w x) (omega arith) (from (suc k
 pub number-made : (w x : ℕ) → Bytes (bytes w x)
 number-made zero x = none-made
 number-made (suc w) x = one-made _ (bytesFrom 1 w x) (omega arith) (from 1 w x)
+
+-- bytes stored into bytes
+pub set-made : (s : List ℕ) (i x : ℕ) → x < 256 → Bytes s → Bytes (set s i x)
+set-made [] i x h all = all
+set-made (y ∷ s) zero x h all = one-made x s h (λ k. all (suc k))
+set-made (y ∷ s) (suc i) x h all = one-made y (set s i x) (all 0) (set-made s i x h (λ k. all (suc k)))

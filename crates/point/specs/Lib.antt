@@ -4,5 +4,6 @@ pub mod Marks
 -- laws
 pub mod Kind
 pub mod Answer
+pub mod Class
 -- theorems
 pub mod Theorems

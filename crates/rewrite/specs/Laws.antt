@@ -1,9 +1,9 @@
 -- Of bytes, what stands for a part is the part itself, but for the header's EVLR pair.
 use Prim.Native.Nat.{ℕ, zero, suc, _+_, _*_, _≤_}
-use mathlib.Core.Path.{_≡_, ap, _∙_}
+use mathlib.Core.Path.{_≡_, refl, ap, _∙_}
 use mathlib.Core.Bool.{Bool}
 use mathlib.Core.Logic.{_⊎_}
-use mathlib.Core.List.{List, _++_}
+use mathlib.Core.List.{List, [], _∷_, _++_}
 use native.Mathlib.Nat.{suc-mul, zero-mul}
 use native.Mathlib.Omega.{arith}
 use lib.ListN.{length, take, drop, replicate, length-drop}
@@ -26,8 +26,33 @@ use Rattle.header.specs.Layout.{VersionMinor, StartOfFirstEvlr, NumberOfEvlrs}
 use Rattle.header.specs.Header.{number}
 use Rattle.header_write.specs.Back.{Paired}
 use Rattle.header_write.specs.Theorems as header
-use Rattle.rewrite.specs.Back.{headerBack, vlrBack, pointBy, pointBack, pointsBack}
+use Rattle.outline.specs.declared.Outline.{Outline}
+use Rattle.file.specs.Points.{pointFormat}
+use Rattle.cursor.specs.declared.Part.{Part}
+use Rattle.cursor.specs.declared.Kind.the-variants.{Points}
+use Rattle.cursor.specs.Parts.{bytesOf}
+use Rattle.rewrite.specs.Back.{headerBack, vlrBack, pointBy, pointBack, pointsBack, partBack}
+use Rattle.rewrite.specs.Rewritten.{backOf}
 use Rattle.rewrite.specs.Asked.{HeaderPart, VlrPart, PointPart, PointsPart}
+
+-- records one after the other, and parts
+module _ (f : Format) (m : ℕ) (s : List ℕ) where
+  pub no-points : pointsBack f m zero s ≡ []
+  unfolding pointsBack
+  no-points = refl
+
+  pub more-points : (k : ℕ) → pointsBack f m (suc k) s ≡ pointBack f (take m s) ++ pointsBack f m k (drop m s)
+  unfolding pointsBack
+  more-points k = refl
+
+module _ (o : Outline) (s : List ℕ) where
+  pub no-parts : backOf o s [] ≡ []
+  unfolding backOf
+  no-parts = refl
+
+  pub more-parts : (p : Part) (ps : List Part) → backOf o s (p ∷ ps) ≡ partBack o (p .kind) (bytesOf s p) ++ backOf o s ps
+  unfolding backOf
+  more-parts p ps = refl
 
 -- a whole record is read, and what stands for it is the writer's bytes of that point
 module _ (f : Format) (s : List ℕ) (whole : PointPart f s) where
@@ -55,6 +80,10 @@ points-same f m (suc k) s long h bytes =
 -- all the points of a part
 pub part-same : (f : Format) (m k : ℕ) (s : List ℕ) → PointsPart f m k s → Bytes s → pointsBack f m k s ≡ s
 part-same f m k s whole bytes = points-same f m k s (whole .0) (omega (arith, whole .1)) bytes ∙ take-all (k * m) s (omega (arith, whole .1))
+
+pub points-part-same : (o : Outline) (s : List ℕ) → PointsPart (pointFormat o) (o .«point_data_record_length») (o .«number_of_point_records») s → Bytes s → partBack o Points s ≡ s
+unfolding partBack
+points-part-same o s whole bytes = part-same (pointFormat o) (o .«point_data_record_length») (o .«number_of_point_records») s whole bytes
 
 pub vlr-same : (extended : Bool) (s : List ℕ) → VlrPart extended s → Bytes s → vlrBack extended s ≡ s
 unfolding vlrBack

@@ -1,14 +1,14 @@
 -- The header's EVLR pair: all that rewriting may change.
 use Prim.Native.Nat.{ℕ, _≤_}
 use mathlib.Core.Path.{_≡_, refl, ap, sym, _∙_}
-use mathlib.Core.Bool.{Bool, true, false}
+use mathlib.Core.Bool.{Bool, true, false, cond}
 use mathlib.Core.Logic.{_⊎_, inl, inr}
 use mathlib.Core.List.{List, _++_, append-assoc}
 use native.Mathlib.Omega.{arith}
 use borrow.Author.Tests.{eqb-true, eqb-false}
 use lib.Dec.{eqb}
 use lib.ListN.{length, take, drop, replicate, length-append, length-take, length-drop, take-append-drop}
-use lib.Seq.{take-append-le, drop-append-le}
+use lib.Seq.{take-append-le, drop-append-le, take-at, drop-at, drop-drop, length-take-le}
 use Rattle.le.specs.Le.{Bytes}
 use Rattle.le.specs.Laws.{num-take, bytes-take}
 use Rattle.header.specs.Layout.{VersionMinor, StartOfFirstEvlr, NumberOfEvlrs, size, fieldsOf}
@@ -22,6 +22,26 @@ use Rattle.rewrite.specs.Laws.{header-same, header-half}
 -- bytes 235 to 246, where the pair stands, as "two zeros"
 abbrev pub pairCleared : List ℕ → List ℕ
 pairCleared s = take 235 s ++ (replicate 12 0 ++ drop 247 s)
+
+-- those bytes of t as they are in s
+abbrev pub pairOf : List ℕ → List ℕ → List ℕ
+pairOf s t = take 235 t ++ (take 12 (drop 235 s) ++ drop 247 t)
+
+-- the same in version 1.4, which has the pair
+abbrev pub withPair : List ℕ → List ℕ → List ℕ
+withPair s t = cond (eqb (number VersionMinor s) 4) (pairOf s t) t
+
+pair-self : (s : List ℕ) → pairOf s s ≡ s
+pair-self s =
+    let rest : take 12 (drop 235 s) ++ drop 247 s ≡ drop 235 s = ap (λ (l : List ℕ). take 12 (drop 235 s) ++ l) (sym (drop-drop 12 235 s)) ∙ take-append-drop 12 (drop 235 s) in
+    rw rest (take-append-drop 235 s)
+
+pair-cleared : (s : List ℕ) → 247 ≤ length s → pairOf s (pairCleared s) ≡ s
+pair-cleared s long =
+    let first : length (take 235 s) ≡ 235 = length-take-le 235 s (omega arith) in
+    let second : length (take 235 s ++ replicate 12 0) ≡ 247 = rw (length-append, first) in
+    let rest : drop 247 (pairCleared s) ≡ drop 247 s = ap (drop 247) (sym (append-assoc (take 235 s) (replicate 12 0) (drop 247 s))) ∙ drop-at (take 235 s ++ replicate 12 0) (drop 247 s) 247 second in
+    (λ i. take-at (take 235 s) (replicate 12 0 ++ drop 247 s) 235 first i ++ (take 12 (drop 235 s) ++ rest i)) ∙ pair-self s
 
 cleared-append : (s t : List ℕ) → 247 ≤ length s → pairCleared s ++ t ≡ pairCleared (s ++ t)
 cleared-append s t second =
@@ -72,3 +92,21 @@ module _ (n : ℕ) (s : List ℕ) (whole : HeaderPart (take n s)) (bytes : Bytes
       let zero = rw (← (num-take 8 235 s n (omega (arith, length-take n s))), ← (num-take 4 243 s n (omega (arith, length-take n s)))) at half in
       rw (header-half (take n s) whole (bytes-take n s bytes) (minor ∙ four) zero)
       (cleared-append (take n s) (drop n s) (omega arith) ∙ ap pairCleared (take-append-drop n s))
+
+  -- so what stands for a header with what follows it is that, or in version 1.4 that with the pair cleared,
+  whole-either : (headerBack (take n s) ++ drop n s ≡ s) ⊎ ((number VersionMinor s ≡ 4) × (headerBack (take n s) ++ drop n s ≡ pairCleared s))
+  whole-either = go (either (take n s) whole (bytes-take n s bytes))
+    where
+      go : (headerBack (take n s) ≡ take n s) ⊎ ((number VersionMinor (take n s) ≡ 4) × (headerBack (take n s) ≡ pairCleared (take n s))) → (headerBack (take n s) ++ drop n s ≡ s) ⊎ ((number VersionMinor s ≡ 4) × (headerBack (take n s) ++ drop n s ≡ pairCleared s))
+      go (inl same) = inl (rw same (take-append-drop n s))
+      go (inr (four, cleared)) = inr (sym minor ∙ four, rw cleared (cleared-append (take n s) (drop n s) (omega (arith, large (take n s) whole four)) ∙ ap pairCleared (take-append-drop n s)))
+
+  -- and with the pair as it is, it is the same
+  pub pair-put-back : withPair s (headerBack (take n s) ++ drop n s) ≡ s
+  pair-put-back = go (eqb (number VersionMinor s) 4) refl whole-either
+    where
+      go : (four : Bool) → eqb (number VersionMinor s) 4 ≡ four → (headerBack (take n s) ++ drop n s ≡ s) ⊎ ((number VersionMinor s ≡ 4) × (headerBack (take n s) ++ drop n s ≡ pairCleared s)) → cond four (pairOf s (headerBack (take n s) ++ drop n s)) (headerBack (take n s) ++ drop n s) ≡ s
+      go false p (inl same) = same
+      go false p (inr (four, cleared)) = absurd (eqb-false _ _ p four)
+      go true p (inl same) = ap (pairOf s) same ∙ pair-self s
+      go true p (inr (four, cleared)) = ap (pairOf s) cleared ∙ pair-cleared s (omega (arith, large (take n s) whole (minor ∙ four), length-take n s))

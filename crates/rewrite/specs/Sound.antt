@@ -1,6 +1,6 @@
 -- The parts of an accepted file cover it and are whole, and only the first is a header.
 use Prim.Native.Nat.{ℕ, _-_, _≤_}
-use mathlib.Core.Path.{_≡_, refl, sym, subst, _∙_}
+use mathlib.Core.Path.{_≡_, refl, ap, sym, subst, _∙_}
 use mathlib.Core.Bool.{Bool, true, false}
 use mathlib.Core.List.{List}
 use native.Mathlib.Omega.{arith}
@@ -27,7 +27,9 @@ use Rattle.cursor.specs.Covers.{covered}
 use Rattle.cursor.specs.Each.{header-first, each-part}
 use Rattle.rewrite.specs.Asked.{HeaderPart, VlrPart, PartIs, IsWhole, Tiles}
 use Rattle.rewrite.specs.Laws.{record-whole}
-use Rattle.rewrite.specs.Whole.{NoHeader}
+use Rattle.rewrite.specs.Pair.{withPair, pair-put-back}
+use Rattle.rewrite.specs.Rewritten.{backOf}
+use Rattle.rewrite.specs.Whole.{NoHeader, whole-same}
 
 module _ (allowance : ℕ) (s : List ℕ) (h : Holds allowance s) where
   -- the header with its padding ends where the header-size field says
@@ -66,3 +68,11 @@ module _ (allowance : ℕ) (s : List ℕ) {n : ℕ} (p : checkedOf allowance s �
 
   pub no-header-after : Each NoHeader (bodyOf (outlineIn s) s)
   no-header-after = each-part NoHeader (λ from to. refl) s (outlineIn s) (laid allowance s p) (λ at to whole. refl) (λ at to whole. refl) (λ at to whole. refl) refl
+
+  -- what stands for them is the file, but for the EVLR pair
+  pub but-for-pair : Bytes s → withPair s (backOf (outlineIn s) s (partsOf (outlineIn s) s)) ≡ s
+  but-for-pair bytes =
+      let o = outlineIn s in
+      let size = o .«header_size» in
+      let same = whole-same o s bytes size (bodyOf o s) (rw header-first at (file-tiles bytes)) no-header-after in
+      rw header-first (ap (withPair s) same ∙ pair-put-back size s (header-whole allowance s (accepted-holds allowance s p)) bytes)

@@ -12,9 +12,10 @@ use lib.ListN.{length, set, take, drop, length-take}
 use lib.Seq.{sets, length-sets}
 use Rattle.le.specs.Le.{bytes, Bytes}
 use Rattle.le.specs.Laws.{bytes-take, bytes-drop}
-use Rattle.le.specs.Made.{none-made, one-made, both-made, number-made}
+use Rattle.le.specs.Made.{none-made, both-made, number-made, set-made}
 use Rattle.fields.specs.Table.{joined, All, none, _&_}
 use Rattle.store.specs.Parts.{drop-sets, part-sets}
+use Rattle.store.specs.Elsewhere.{Elsewhere, nowhere, then-elsewhere}
 use Rattle.offer.specs.declared.Sweep.{Sweep}
 use Rattle.sectors.specs.declared.Stored.{Stored}
 use Rattle.sectors.specs.Sectors.{pointStores, storesOf, sectorOf, withRecords, byReturnOf, withHeader, stepOf, storedOf, afterStores}
@@ -34,24 +35,7 @@ abbrev pub someStores : Sweep → List ℕ → List ℕ → List ℕ → List �
 someStores w records bounds [] s = s
 someStores w records bounds (k ∷ ks) s = someStores w records bounds ks (storedOf w records bounds k s .1)
 
--- t is s but for `size` bytes from `at` on
-pub record Elsewhere (at size : ℕ) (s t : List ℕ) : Type 0 where
-  pub long : length t ≡ length s
-  pub front : take at t ≡ take at s
-  pub rest : drop (at + size) t ≡ drop (at + size) s
-
-nowhere : {at size : ℕ} {s : List ℕ} → Elsewhere at size s s
-nowhere = record { long = refl; front = refl; rest = refl }
-
-then-elsewhere : {at size : ℕ} {s t u : List ℕ} → Elsewhere at size s t → Elsewhere at size t u → Elsewhere at size s u
-then-elsewhere p q = record { long = q .long ∙ p .long; front = q .front ∙ p .front; rest = q .rest ∙ p .rest }
-
 -- bytes stored into bytes, and the bytes of some numbers
-set-made : (s : List ℕ) (i x : ℕ) → x < 256 → Bytes s → Bytes (set s i x)
-set-made [] i x h all = all
-set-made (y ∷ s) zero x h all = one-made x s h (λ k. all (suc k))
-set-made (y ∷ s) (suc i) x h all = one-made y (set s i x) (all 0) (set-made s i x h (λ k. all (suc k)))
-
 sets-made : (s v : List ℕ) (at : ℕ) → Bytes s → Bytes v → Bytes (sets s at v)
 sets-made s [] at h l = h
 sets-made s (x ∷ v) at h l = sets-made (set s at x) v (suc at) (set-made s at x (l 0) h) (λ k. l (suc k))

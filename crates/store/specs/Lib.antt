@@ -3,3 +3,4 @@ pub mod Window
 -- laws
 pub mod Laws
 pub mod Parts
+pub mod Elsewhere
