@@ -49,6 +49,7 @@ void test_vlrs(void);
 void test_headers(void);
 void test_files(void);
 void test_append(void);
+void test_reclassify(void);
 void test_conversion(void);
 void test_migration(void);
 

@@ -95,6 +95,7 @@ int main(int argc, char **argv) {
     test_headers();
     test_files();
     test_append();
+    test_reclassify();
     test_conversion();
     test_migration();
 

@@ -594,6 +594,37 @@ uint64_t las_append_stores(const uint64_t sweep[8]);
 void las_append_store(uint8_t *file, size_t file_len, const uint64_t sweep[8], const uint8_t *records, size_t records_len,
                       const uint64_t bounds[6], uint64_t k, uint64_t sector[2], uint64_t row[3]);
 
+/* ---- reclassifying ---- */
+
+/* The class of one point is set in its place, in a file of any version: one byte changes, and no other. In formats 0 to 5 the class, 0 to
+ * 31, is the low five bits of that byte, and synthetic, key point and withheld, above them, stay. In formats 6 to 10 it is the whole
+ * byte, 0 to 255. There overlap is a bit of its own, which stays; in formats 0 to 5 class 12 is what says overlap, so that a point is
+ * overlap with it, and is none with another class.
+ *
+ * The value is the class that the point had. Keep it for whoever wants to undo this: set again, it gives every byte back.
+ *
+ * Whoever writes to a device himself lends the file as it is there to las_reclassify_ask, and then writes one byte, the one that is told,
+ * at the place that is told, and nothing else. Nobody may change the file between the two. A cut of the power leaves the class that
+ * the point had or the new one. */
+
+/* The places of a change's numbers. */
+enum {
+    LAS_CHANGE_AT = 0,   /* the place of the byte in the file, counted from 0 */
+    LAS_CHANGE_BYTE = 1, /* what it becomes */
+    LAS_CHANGE_NUMBERS = 2
+};
+
+/* Gives a point of the file, counted from 1, this class; the value is the class that it had. Refuses as las_file_check does, then with
+ * LAS_REFUSED_INDEX where the file has no such point, 0 or one past the last; LAS_REFUSED_CLASS where the class is above 31 and the
+ * format is 0 to 5. Of the points it looks at that byte alone. */
+void las_reclassify(uint8_t *file, size_t file_len, uint64_t allowance, uint64_t point, uint8_t classification,
+                    uint64_t row[3]);
+
+/* What las_reclassify would change, and nothing of the file is changed: the byte's place and what it becomes; the value is the class
+ * that the point has. Refuses as las_reclassify does, and leaves the change. */
+void las_reclassify_ask(const uint8_t *file, size_t file_len, uint64_t allowance, uint64_t point, uint8_t classification,
+                        uint64_t change[2], uint64_t row[3]);
+
 /* ---- conversion ---- */
 
 /* Whether an old record can show a point to an old reader with the same value in every field, the angle to the nearest whole

@@ -348,6 +348,23 @@ mod lent {
             sector: &mut Span,
             row: &mut Row,
         );
+        pub(super) fn las_reclassify(
+            file: *mut u8,
+            len: usize,
+            allowance: u64,
+            point: u64,
+            class: u8,
+            row: &mut Row,
+        );
+        pub(super) fn las_reclassify_ask(
+            file: *const u8,
+            len: usize,
+            allowance: u64,
+            point: u64,
+            class: u8,
+            change: &mut [u64; 2],
+            row: &mut Row,
+        );
 
         pub(super) fn las_convert_ask_old(
             src: *const u8,
@@ -709,6 +726,31 @@ pub fn las_append_store(
     let (to, to_len) = (file.as_mut_ptr(), file.len());
     // SAFETY: both pointers go with the lengths of their borrowed slices, of which the one written to is borrowed alone.
     unsafe { lent::las_append_store(to, to_len, sweep, from, from_len, bounds, k, sector, row) }
+}
+
+// Calls that set the class of a point, counted from 1; the value is the class that it had.
+
+/// Gives the point this class, in the file.
+#[inline]
+pub fn las_reclassify(file: &mut [u8], allowance: u64, point: u64, class: u8, row: &mut Row) {
+    let (to, to_len) = (file.as_mut_ptr(), file.len());
+    // SAFETY: pointer and length are those of one slice, which is borrowed alone.
+    unsafe { lent::las_reclassify(to, to_len, allowance, point, class, row) }
+}
+
+/// The byte that gives the point this class: its place in the file, and what it becomes.
+#[inline]
+pub fn las_reclassify_ask(
+    file: &[u8],
+    allowance: u64,
+    point: u64,
+    class: u8,
+    change: &mut [u64; 2],
+    row: &mut Row,
+) {
+    let (at, len) = (file.as_ptr(), file.len());
+    // SAFETY: pointer and length are those of one borrowed slice.
+    unsafe { lent::las_reclassify_ask(at, len, allowance, point, class, change, row) }
 }
 
 // Calls on runs of records: a format byte, a count of extra bytes and a count of records.
