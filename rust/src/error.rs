@@ -3,7 +3,7 @@
 use crate::refusal::Refusal;
 use std::{error, fmt, io};
 
-/// Why a file on the disk was not made or not appended to.
+/// Why a file on the disk was not made or not changed.
 #[derive(Debug)]
 #[non_exhaustive]
 pub enum Error {
@@ -11,7 +11,10 @@ pub enum Error {
     Refused(Refusal),
     /// A setting of a new file is none that a file can have; a sentence says which. Nothing was written.
     Setting(String),
-    /// The system could not do it. What an append has written until then does no harm: it is to be repeated.
+    /// Somebody who does not ask for the lock changed the file since it was judged, or gave its name to another. Nothing was
+    /// written.
+    Changed,
+    /// The system could not do it. What was written until then does no harm: the same call is to be repeated.
     Io(io::Error),
 }
 
@@ -30,6 +33,9 @@ impl fmt::Display for Error {
         match self {
             Error::Refused(refusal) => refusal.fmt(f),
             Error::Setting(words) => f.write_str(words),
+            Error::Changed => f.write_str(
+                "another program changed it, or gave its name to another file, since it was judged; nothing was written",
+            ),
             Error::Io(error) => error.fmt(f),
         }
     }
@@ -39,7 +45,7 @@ impl error::Error for Error {
     fn source(&self) -> Option<&(dyn error::Error + 'static)> {
         match self {
             Error::Refused(refusal) => Some(refusal),
-            Error::Setting(_) => None,
+            Error::Setting(_) | Error::Changed => None,
             Error::Io(error) => Some(error),
         }
     }

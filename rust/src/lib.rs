@@ -67,7 +67,8 @@
 //! [`File::to_old`].
 //!
 //! A scanner makes a file of LAS 1.2 by [`NewFile`], opens it as a [`Writer`], and appends sweep after sweep: an [`Append`] can be
-//! cut short by a brownout anywhere, and repeated without harm.
+//! cut short by a brownout anywhere, and repeated without harm. The class of a single point of any file is corrected in place by
+//! [`Reclassify`], in memory or, by the same [`Writer`], on the disk.
 //!
 //! What is proved, and what is trusted, is in `docs/TRUST.md` of the repository: the rules, layouts and conversions are
 //! proved; this crate, which turns the library's numbers into types, and `inscjarol-sys` under it, which declares the
@@ -98,6 +99,7 @@ mod header;
 mod map;
 mod new;
 mod point;
+mod reclassify;
 mod refusal;
 mod sys;
 mod text;
@@ -115,6 +117,7 @@ pub use header::{Bounds, Evlrs, Header, LargeFile, Version};
 pub use map::Mapped;
 pub use new::NewFile;
 pub use point::{Color, Point, Waveform};
+pub use reclassify::{Change, Reclassify};
 pub use refusal::{Kind, Refusal};
 pub use text::text;
 pub use vlr::Vlr;

@@ -60,7 +60,7 @@ pub enum Kind {
     Attributes,
     /// 26: the format has no pair to be converted to.
     NoPair,
-    /// 27: there are no more points.
+    /// 27: there is no point with this number, or there are no more.
     Index,
     /// 28: records are to be appended to a file that is not of version 1.2.
     NotVersion12,
@@ -464,7 +464,10 @@ impl fmt::Display for Refusal {
                 "point format {value} has no pair to be converted to: 6 to 10 have old ones (1, 3, 3, 4, 5), and 1, 3, 4 \
                  and 5 new ones (6, 7, 9, 10)"
             ),
-            Kind::Index => write!(f, "there are no more points: the file has {value}"),
+            Kind::Index => write!(
+                f,
+                "there is no such point, or no more: the file has {value}, counted from 1"
+            ),
             Kind::NotVersion12 => f.write_str(
                 "records can be appended to LAS 1.2 alone, and the file is of another version (header bytes 24 and 25)",
             ),

@@ -356,6 +356,32 @@ pub(crate) fn append_store(
     stored.map(|bytes| (bytes > 0).then_some((start, len)))
 }
 
+// Calls that set the class of a point, counted from 1.
+
+/// The class that it had.
+pub(crate) fn reclassify(
+    file: &mut [u8],
+    allowance: u64,
+    point: u64,
+    class: u8,
+) -> Result<u8, Refusal> {
+    asked(|row| calls::las_reclassify(file, allowance, point, class, row)).map(|was| was as u8)
+}
+
+/// The place in the file of the byte that changes, what it becomes, and the class that the point has.
+pub(crate) fn reclassify_ask(
+    file: &[u8],
+    allowance: u64,
+    point: u64,
+    class: u8,
+) -> Result<(u64, u8, u8), Refusal> {
+    let mut change = [0; 2];
+    let was =
+        asked(|row| calls::las_reclassify_ask(file, allowance, point, class, &mut change, row));
+    let [at, byte] = change;
+    was.map(|was| (at, byte as u8, was as u8))
+}
+
 // Calls on runs of records: a format byte, a count of extra bytes and a count of records.
 
 pub(crate) fn convert_ask_old(src: &[u8], run: (u8, u16, u64)) -> Result<usize, Refusal> {
