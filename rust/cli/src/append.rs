@@ -2,15 +2,15 @@
 
 use super::{
     args::{Opt, Words},
+    held,
     input::{self, Input, Name},
-    os,
     output::Output,
     progress::Progress,
     show::{counted, grouped},
     Command, Failure, Status,
 };
 use inscjarol::{Append, Appended, Bounds, Error, File, Header, Writer};
-use std::{ffi::OsStr, fs, io, os::unix::fs::MetadataExt, path::Path};
+use std::{ffi::OsStr, io, path::Path};
 
 pub(crate) const COMMAND: Command = Command {
     name: "append",
@@ -77,9 +77,9 @@ fn run(words: &Words, out: &mut Output) -> Result<Status, Failure> {
         }
     };
     let name = Name::new(file);
-    let mut writer = match open(Path::new(file)) {
+    let mut writer = match held::open(Path::new(file)) {
         Ok(writer) => writer,
-        Err(error) => return out.failed(&name, &unwritten(&error)),
+        Err(error) => return out.failed(&name, &held::words(&error)),
     };
     // Whether it takes records at all is asked before they are read.
     if let Err(error) = writer.room(0) {
@@ -170,19 +170,6 @@ fn in_order(bounds: Bounds) -> Result<Bounds, Failure> {
     Ok(bounds)
 }
 
-/// Opens FILE and locks it.
-fn open(path: &Path) -> io::Result<Writer> {
-    let about = fs::metadata(path)?;
-    if about.is_dir() {
-        return Err(other("it is a folder, not a file"));
-    }
-    // Who may write everything is held to the mode all the same.
-    if about.is_file() && about.mode() & 0o222 == 0 {
-        return Err(other("it is read-only"));
-    }
-    os::writer(path)
-}
-
 /// The bytes of RECORDS, which are whole records of FILE.
 fn records(file: &OsStr, from: &OsStr, writer: &Writer) -> io::Result<Input> {
     if input::id(file)? == input::id(from)? {
@@ -229,16 +216,6 @@ fn failed(name: &Name, error: Error, out: &mut Output) -> Result<Status, Failure
                 "{error}; what was written of it does no harm, and the same append can be repeated"
             ),
         ),
-    }
-}
-
-/// Why a file cannot be opened to be written, as it is told.
-fn unwritten(error: &io::Error) -> String {
-    match error.kind() {
-        io::ErrorKind::PermissionDenied => {
-            String::from("it may not be written (permission denied)")
-        }
-        _ => input::words(error),
     }
 }
 

@@ -112,19 +112,27 @@ impl Words {
         given.map(|(_, value)| value.as_os_str())
     }
 
+    /// These options with their values, as often as they were given and in that order.
+    pub(crate) fn given<'w>(
+        &'w self,
+        names: &'w [&str],
+    ) -> impl Iterator<Item = (&'static str, &'w OsStr)> {
+        let given = self.options.iter().filter(|(name, _)| names.contains(name));
+        given.map(|(name, value)| (*name, value.as_os_str()))
+    }
+
     /// The number that an option has.
     pub(crate) fn number(&self, name: &str) -> Result<Option<u64>, Failure> {
-        match self.value(name) {
-            None => Ok(None),
-            Some(value) => match value.to_string_lossy().parse() {
-                Ok(number) => Ok(Some(number)),
-                Err(_) => Err(Failure::Usage(format!(
-                    "--{name} needs a number, and '{}' is none",
-                    value.to_string_lossy()
-                ))),
-            },
-        }
+        let value = self.value(name);
+        value.map(|value| number(name, value)).transpose()
     }
+}
+
+/// The number that is an option's value.
+pub(crate) fn number(name: &str, value: &OsStr) -> Result<u64, Failure> {
+    let text = value.to_string_lossy();
+    let number = text.parse();
+    number.map_err(|_| Failure::Usage(format!("--{name} needs a number, and '{text}' is none")))
 }
 
 /// What is wrong, and where to read how it goes.

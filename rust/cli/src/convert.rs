@@ -4,7 +4,7 @@ use super::{
     args::{Opt, Words},
     ask,
     input::{self, Files, Input, Name},
-    output::{refusal_object, Output},
+    output::Output,
     progress::Progress,
     replace::{self, Replacement, Target},
     show::counted,
@@ -253,7 +253,7 @@ impl Work<'_> {
             Ok(file) => file,
             Err(refusal) => {
                 self.total.refused();
-                return refused(&name, &refusal, out);
+                return out.unwritten(&name, &refusal);
             }
         };
         // One call asks about all points and one converts them, and neither says anything before it ends: so only the time is
@@ -370,20 +370,6 @@ impl Work<'_> {
         }
         Ok(Status::Refused)
     }
-}
-
-/// Tells that a file is no whole LAS file.
-fn refused(name: &Name, refusal: &Refusal, out: &mut Output) -> Result<Status, Failure> {
-    match out.json {
-        true => {
-            let mut object = name.object();
-            object.bool("accepted", false).bool("written", false);
-            object.object("refusal", refusal_object(refusal));
-            out.line(&object.finish())?;
-        }
-        false => out.tell(&format!("{name}: {refusal:?}")),
-    }
-    Ok(Status::Refused)
 }
 
 fn other(words: &str) -> io::Error {

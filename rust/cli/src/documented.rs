@@ -54,6 +54,8 @@ const Y: (&str, &str, &str) = ("y", "number or null", "");
 const Z: (&str, &str, &str) = ("z", "number or null", "");
 const FORMAT: (&str, &str, &str) = ("format", "number", "point format, 0 to 10");
 const POINTS: (&str, &str, &str) = ("points", "number", "points");
+const POINT_NUMBER: (&str, &str, &str) = ("point", "number", "counted from 1");
+const CLASS: (&str, &str, &str) = ("class", "number", "the class that was asked for");
 const TO_FORMAT: (&str, &str, &str) = ("to_format", "number", "the format that they go to");
 const TO_VERSION: (&str, &str, &str) = ("to_version", "text", "the version that it goes to");
 
@@ -345,6 +347,49 @@ const OBJECTS: &[(&str, Fields)] = &[
                 "records for which there is room behind them",
             ),
             ("bytes", "number", "bytes of the file"),
+        ],
+    ),
+    (
+        "classify, for a point that has its class, or can have it:",
+        &[
+            NAME,
+            ACCEPTED,
+            (
+                "written",
+                "true or false",
+                "false with --ask, and where another is refused",
+            ),
+            POINT_NUMBER,
+            ("was", "number", "the class that it had"),
+            CLASS,
+        ],
+    ),
+    (
+        "classify, for a point that is refused:",
+        &[
+            NAME,
+            ACCEPTED,
+            ("written", "false", "nothing was"),
+            POINT_NUMBER,
+            CLASS,
+            NUMBER,
+            KIND,
+            VALUE,
+            ("refusal.record", "number", "0"),
+            WORDS,
+        ],
+    ),
+    (
+        "classify, for a file that is refused:",
+        &[
+            NAME,
+            NOT_ACCEPTED,
+            ("written", "false", ""),
+            NUMBER,
+            KIND,
+            VALUE,
+            RECORD,
+            WORDS,
         ],
     ),
 ];

@@ -24,11 +24,13 @@ mod append;
 mod args;
 mod ask;
 mod check;
+mod classify;
 mod convert;
 mod decimal;
 mod documented;
 mod extra;
 mod fields;
+mod held;
 mod info;
 mod input;
 mod json;
@@ -76,6 +78,7 @@ const COMMANDS: &[Command] = &[
     convert::COMMAND,
     rewrite::COMMAND,
     append::COMMAND,
+    classify::COMMAND,
 ];
 
 /// The options of every command.

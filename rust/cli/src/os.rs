@@ -32,9 +32,9 @@ pub(crate) fn map(file: &File) -> io::Result<Mapped> {
     unsafe { Mapped::of(file) }
 }
 
-/// Opens a file to be appended to, and locks it.
+/// Opens a file to be changed in place, and locks it.
 pub(crate) fn writer(path: &Path) -> io::Result<Writer> {
-    // SAFETY: as above; other appends are kept out by the lock.
+    // SAFETY: as above; others who change it so are kept out by the lock.
     unsafe { Writer::open(path) }
 }
 

@@ -65,6 +65,20 @@ impl Output {
         Ok(Status::Failed)
     }
 
+    /// Says that a file is no whole LAS file, so that what was asked of it was not written.
+    pub(crate) fn unwritten(&mut self, name: &Name, refusal: &Refusal) -> Result<Status, Failure> {
+        match self.json {
+            true => {
+                let mut object = name.object();
+                object.bool("accepted", false).bool("written", false);
+                object.object("refusal", refusal_object(refusal));
+                self.line(&object.finish())?;
+            }
+            false => self.tell(&format!("{name}: {refusal:?}")),
+        }
+        Ok(Status::Refused)
+    }
+
     /// Says that a file was refused: in JSON on the standard output, else in words on the standard error.
     pub(crate) fn refused(&mut self, name: &Name, refusal: &Refusal) -> Result<Status, Failure> {
         if self.json {

@@ -174,6 +174,9 @@ fn every_field_that_is_printed_is_told_and_every_one_that_is_told_is_printed() {
                 ("convert", _, true) if has("format") => "convert, for a file that cannot go:",
                 ("convert", _, true) => "convert, for a file that is refused:",
                 ("convert", ..) => "convert, for a file that was written:",
+                ("classify", _, true) if has("point") => "classify, for a point that is refused:",
+                ("classify", _, true) => "classify, for a file that is refused:",
+                ("classify", ..) => "classify, for a point that has its class, or can have it:",
                 (_, _, true) => "parts, info, points and rewrite, for a file that is refused:",
                 ("check", ..) => "check, for a file that is accepted:",
                 ("parts", ..) => "parts, for a file that is accepted:",
@@ -205,6 +208,11 @@ fn every_field_that_is_printed_is_told_and_every_one_that_is_told_is_printed() {
     for path in &files {
         see(&["append", "--room", "7"], path, &[]);
         see(&["append", "--believed", "2"], path, &[&records]);
+        see(&["classify", "--point", "1", "--class", "2"], path, &[]);
+        let points = [
+            "--ask", "--point", "1", "--class", "2", "--point", "0", "--class", "2",
+        ];
+        see(&[&["classify"], &points[..]].concat(), path, &[]);
     }
 
     assert!(printed.keys().eq(told.keys()), "{:?}", told.keys());

@@ -54,5 +54,5 @@ fn the_tool_says_what_it_shows() {
             .unwrap();
         assert_eq!(String::from_utf8(output.stdout).unwrap(), expected);
     }
-    assert_eq!(commands, ["check", "ask", "convert"]);
+    assert_eq!(commands, ["check", "ask", "convert", "classify"]);
 }
