@@ -6,6 +6,7 @@
 mod append;
 mod by_hand;
 mod large;
+mod reclassify;
 mod whole;
 mod work;
 
@@ -158,7 +159,7 @@ fn timed(units: usize, work: impl FnOnce()) -> f64 {
     start.elapsed().as_nanos() as f64 / units as f64
 }
 
-/// How many rounds a large file is timed for.
+/// How many rounds a large file, or a class that is set, is timed for.
 const LARGE_ROUNDS: usize = 401;
 
 /// How many rounds an append is timed for.
@@ -355,6 +356,37 @@ fn append() {
     }
 }
 
+/// A row for each file of which a point gets another class: medians in nanoseconds, and the pages that were touched.
+fn reclassify() {
+    println!(
+        "| points | file bytes | class of the first point | of the last | question | file check | pages: question | write |"
+    );
+    println!("|---|---|---|---|---|---|---|---|");
+    for count in reclassify::SIZES {
+        let mut work = reclassify::Work::new(count);
+        let pages = work.pages();
+        let passes = [
+            reclassify::Work::set_first,
+            reclassify::Work::set_last,
+            reclassify::Work::ask_last,
+            reclassify::Work::check,
+        ];
+        let mut times = passes.map(|_| Times(Vec::new()));
+        for _ in 0..LARGE_ROUNDS {
+            for (pass, times) in passes.iter().zip(&mut times) {
+                times.0.push(timed(CHECKS, || pass(&mut work)));
+            }
+        }
+        let [first, last, question, check] = times.each_mut().map(Times::median);
+        println!(
+            "| {count} | {} | {first:.1} | {last:.1} | {question:.1} | {check:.1} | {} | {} |",
+            work.bytes(),
+            pages[0],
+            pages[1],
+        );
+    }
+}
+
 fn main() {
     println!("Nanoseconds a record, of the file check nanoseconds a call; medians.\n");
     compare();
@@ -371,4 +403,8 @@ fn main() {
         append::RECORDS
     );
     append();
+    println!(
+        "\nThe class of one point set: nanoseconds a call, medians; and the pages of the file that were touched for the first time.\n"
+    );
+    reclassify();
 }
