@@ -2,14 +2,28 @@
 
 use oracle::{
     angle, append, convert, convert_plain, file, flags, format, header, listings, migrate, nir,
-    point, replay, replay_append, replay_migrate, replay_records, report::Tally, strict, vlr,
+    point, reclassify, replay, replay_append, replay_migrate, replay_reclassify, replay_records,
+    report::Tally, strict, vlr,
 };
 use std::{env, fs, io, path::Path, process::ExitCode};
 
 /// What there is to compare, by the name that it is asked for by.
-const SUBJECTS: [&str; 14] = [
-    "format", "flags", "angle", "point", "vlr", "header", "file", "append", "strict", "convert",
-    "migrate", "nir", "plain", "lists",
+const SUBJECTS: [&str; 15] = [
+    "format",
+    "flags",
+    "angle",
+    "point",
+    "vlr",
+    "header",
+    "file",
+    "append",
+    "reclassify",
+    "strict",
+    "convert",
+    "migrate",
+    "nir",
+    "plain",
+    "lists",
 ];
 
 /// Compares the subjects that are asked for, or everything where none is. `crates` is where the programs lie that replay the lists.
@@ -25,6 +39,7 @@ fn compare(crates: &Path, write: bool, asked: &[String]) -> io::Result<bool> {
         ("header", header::compare),
         ("file", file::compare),
         ("append", append::compare),
+        ("reclassify", reclassify::compare),
         ("strict", strict::compare),
         ("convert", convert::compare),
         ("migrate", migrate::compare),
@@ -43,6 +58,7 @@ fn compare(crates: &Path, write: bool, asked: &[String]) -> io::Result<bool> {
         listings::compare(&mut tally, &crates.join("listings"), write)?;
         replay_append::compare(&mut tally, &crates.join("../c/replay"), write)?;
         replay_migrate::compare(&mut tally, &crates.join("../c/replay_migrate"), write)?;
+        replay_reclassify::compare(&mut tally, &crates.join("../c/replay_reclassify"), write)?;
     }
     if asked.is_empty() {
         tally.covers(&fs::read_to_string(crates.join("../include/inscjarol.h"))?);

@@ -910,7 +910,7 @@ fn over<L: Library>(
 }
 
 /// A header in memory that is zeros, of version 1.2 or 1.4, without VLRs.
-fn put_header(file: &mut [u8], numbers: [u64; 6]) {
+pub(crate) fn put_header(file: &mut [u8], numbers: [u64; 6]) {
     let [minor, header_size, offset, format, length, count] = numbers;
     file[..375].fill(0);
     let mut put = |at: usize, width: usize, value: u64| {
@@ -1043,7 +1043,7 @@ fn gigabytes<L: Library>(library: &L) -> Report {
 }
 
 /// A small file: zeros but for its header, with whatever is told besides.
-fn plain(size: usize, numbers: [u64; 6], besides: &[(usize, u8)]) -> Vec<u8> {
+pub(crate) fn plain(size: usize, numbers: [u64; 6], besides: &[(usize, u8)]) -> Vec<u8> {
     let mut file = vec![0; size.max(375)];
     put_header(&mut file, numbers);
     for &(at, byte) in besides {
