@@ -93,10 +93,10 @@ int main(void) {
             return EXIT_FAILURE;
         }
         make(q);
-        uint64_t change[2] = {BEFORE, BEFORE};
+        uint64_t change[LAS_CHANGE_NUMBERS] = {BEFORE, BEFORE};
         las_reclassify_ask(file, q[SIZE], q[ALLOWANCE], q[POINT], (uint8_t)q[CLASS], change, row);
         print_row(row);
-        printf("%" PRIu64 " %" PRIu64 " ", change[0], change[1]);
+        printf("%" PRIu64 " %" PRIu64 " ", change[LAS_CHANGE_AT], change[LAS_CHANGE_BYTE]);
         las_reclassify(file, q[SIZE], q[ALLOWANCE], q[POINT], (uint8_t)q[CLASS], row);
         print_row(row);
         printf("%" PRIu64, summed(NO_BYTES, file, q[SIZE]));
