@@ -96,7 +96,8 @@ enum {
     LAS_REFUSED_OTHER_VERSION_OR_FORMAT = 32,
     LAS_REFUSED_EVLRS_OR_WAVEFORMS = 33,
     LAS_REFUSED_COUNTS_TOO_LARGE_FOR_OLD = 34,
-    LAS_REFUSED_WAVEFORM_START = 35
+    LAS_REFUSED_WAVEFORM_START = 35,
+    LAS_REFUSED_FIELD_LACKING = 36
 };
 
 /* Some of the caller's bytes, as two numbers: where they start in the slice that was lent, and how many there are. Where there

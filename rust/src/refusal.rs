@@ -78,13 +78,15 @@ pub enum Kind {
     CountsTooLargeForOld,
     /// 35: the waveform packets start before the end of the points or beyond the file.
     WaveformStart,
+    /// 36: the points' format does not have the field.
+    FieldLacking,
     /// A number that this version of the crate does not know.
     Unknown(u64),
 }
 
 impl Kind {
     /// Every kind that has a number, in the table's order.
-    const ALL: [Kind; 35] = [
+    const ALL: [Kind; 36] = [
         Kind::Short,
         Kind::Signature,
         Kind::Version,
@@ -120,6 +122,7 @@ impl Kind {
         Kind::EvlrsOrWaveforms,
         Kind::CountsTooLargeForOld,
         Kind::WaveformStart,
+        Kind::FieldLacking,
     ];
 
     /// The kind with this number.
@@ -169,6 +172,7 @@ impl Kind {
             Kind::EvlrsOrWaveforms => 33,
             Kind::CountsTooLargeForOld => 34,
             Kind::WaveformStart => 35,
+            Kind::FieldLacking => 36,
             Kind::Unknown(number) => number,
         }
     }
@@ -211,6 +215,7 @@ impl Kind {
             Kind::EvlrsOrWaveforms => "EVLRs or waveforms",
             Kind::CountsTooLargeForOld => "counts too large for old",
             Kind::WaveformStart => "waveform start",
+            Kind::FieldLacking => "field lacking",
             Kind::Unknown(_) => "unknown",
         }
     }
@@ -258,7 +263,7 @@ impl Refusal {
         self.kind
     }
 
-    /// The number in the library's table, 1 to 35.
+    /// The number in the library's table, 1 to 36.
     pub fn number(&self) -> u64 {
         self.kind.number()
     }
@@ -501,6 +506,10 @@ impl fmt::Display for Refusal {
                 "the start of the waveform packets (header byte 227) is before the end of the points or beyond the end of the \
                  file; where they are in another file, bit 1 of the global encoding (header byte 6) must not be set",
             ),
+            Kind::FieldLacking => f.write_str(
+                "the point format (header byte 104) does not have this field: 1 and 3 to 10 have the time, 2, 3, 5, 7, 8 and 10 \
+                 colours, 8 and 10 near infrared",
+            ),
             Kind::Unknown(number) => write!(
                 f,
                 "refusal {number} with value {value}, which this version of the crate does not know"
@@ -523,7 +532,8 @@ mod tests {
         assert_eq!(Kind::from_number(31), Kind::CountTooLarge);
         assert_eq!(Kind::from_number(34), Kind::CountsTooLargeForOld);
         assert_eq!(Kind::from_number(35), Kind::WaveformStart);
-        assert_eq!(Kind::from_number(36), Kind::Unknown(36));
+        assert_eq!(Kind::from_number(36), Kind::FieldLacking);
+        assert_eq!(Kind::from_number(37), Kind::Unknown(37));
         assert_eq!(Kind::from_number(u64::MAX), Kind::Unknown(u64::MAX));
     }
 
@@ -531,7 +541,7 @@ mod tests {
     fn every_kind_has_a_name_and_a_sentence_of_its_own() {
         let mut names = Vec::new();
         let mut sentences = Vec::new();
-        for number in 1..=35 {
+        for number in 1..=36 {
             let refusal = Refusal::from_row(number, 7, 3);
             names.push(refusal.name());
             sentences.push(refusal.to_string());
@@ -540,7 +550,7 @@ mod tests {
         names.dedup();
         sentences.sort_unstable();
         sentences.dedup();
-        assert_eq!((names.len(), sentences.len()), (35, 35));
+        assert_eq!((names.len(), sentences.len()), (36, 36));
         assert!(sentences.iter().all(|words| !words.ends_with('.')));
     }
 

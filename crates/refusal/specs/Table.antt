@@ -3,7 +3,7 @@ use Prim.Native.Nat.{ℕ, _^_}
 use mathlib.Core.Bool.{cond}
 use lib.Dec.{ltb}
 use Rattle.refusal.specs.declared.Refusal.{Refusal}
-use Rattle.refusal.specs.declared.Refusal.the-variants.{Short, Signature, Version, HeaderSize, Format, Compressed, FormatForVersion, RecordLength, PointOffset, Allowance, VlrExtent, PointExtent, EvlrExtent, EvlrStart, ReturnNumber, NumberOfReturns, Class, Channel, Overlap, Nir, Angle, NoRoom, ExtraBytes, VlrDataLength, Attributes, NoPair, Index, NotVersion12, NoRecords, CountNeither, CountTooLarge, OtherVersionOrFormat, EvlrsOrWaveforms, CountsTooLargeForOld, WaveformStart}
+use Rattle.refusal.specs.declared.Refusal.the-variants.{Short, Signature, Version, HeaderSize, Format, Compressed, FormatForVersion, RecordLength, PointOffset, Allowance, VlrExtent, PointExtent, EvlrExtent, EvlrStart, ReturnNumber, NumberOfReturns, Class, Channel, Overlap, Nir, Angle, NoRoom, ExtraBytes, VlrDataLength, Attributes, NoPair, Index, NotVersion12, NoRecords, CountNeither, CountTooLarge, OtherVersionOrFormat, EvlrsOrWaveforms, CountsTooLargeForOld, WaveformStart, FieldLacking}
 use Rattle.refusal.specs.declared.Row.{Row}
 
 -- the column "no."
@@ -46,6 +46,8 @@ numberOf EvlrsOrWaveforms = 33
 numberOf CountsTooLargeForOld = 34
 -- No. 11: "start before the end of points or beyond the file"
 numberOf WaveformStart = 35
+-- No. 6: "field lacking"
+numberOf FieldLacking = 36
 
 -- "bytes wanted in all, 0 if over 2^64−1", and so "bytes or entries wanted, 0 likewise"
 unfoldable pub wantedOf : ℕ → ℕ
@@ -88,6 +90,7 @@ valueOf OtherVersionOrFormat = 0
 valueOf EvlrsOrWaveforms = 0
 valueOf CountsTooLargeForOld = 0
 valueOf WaveformStart = 0
+valueOf FieldLacking = 0
 
 -- a refusal at a record; the record number is 0 where document 01 names no record
 unfoldable pub rowOf : Refusal → ℕ → Row

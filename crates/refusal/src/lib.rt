@@ -55,6 +55,8 @@ pub enum Refusal {
     CountsTooLargeForOld,
     // No. 11, the waveform packets: they start before the end of the points or beyond the file.
     WaveformStart,
+    // No. 6, the columns: the points' format does not have the field.
+    FieldLacking,
 }
 
 // A refusal as document 01 returns it: number, value and record number.
@@ -105,6 +107,7 @@ impl Refusal {
             Refusal::EvlrsOrWaveforms => 33,
             Refusal::CountsTooLargeForOld => 34,
             Refusal::WaveformStart => 35,
+            Refusal::FieldLacking => 36,
         }
     }
 
@@ -148,6 +151,7 @@ impl Refusal {
             Refusal::EvlrsOrWaveforms => 0,
             Refusal::CountsTooLargeForOld => 0,
             Refusal::WaveformStart => 0,
+            Refusal::FieldLacking => 0,
         }
     }
 

@@ -20,6 +20,7 @@ number-spec =
     (λ c. search needs) (λ c. search needs) (λ c. search needs) (λ c. search needs) (λ c. search needs)
     (λ c. search needs) (λ c. search needs) (λ c. search needs) (λ c. search needs) (λ c. search needs)
     (λ c. search needs) (λ c. search needs) (λ c. search needs) (λ c. search needs) (λ c. search needs)
+    (λ c. search needs)
     (λ c. row (c .enum-told .given .1)) (λ c. row (c .enum-told2 .given .1)) (λ c. row (c .enum-told3 .given .1))
     (λ c. row (c .enum-told4 .given .1)) (λ c. row (c .enum-told5 .given .1)) (λ c. row (c .enum-told6 .given .1))
     (λ c. row (c .enum-told7 .given .1)) (λ c. row (c .enum-told8 .given .1)) (λ c. row (c .enum-told9 .given .1))
@@ -31,4 +32,4 @@ number-spec =
     (λ c. row (c .enum-told25 .given .1)) (λ c. row (c .enum-told26 .given .1)) (λ c. row (c .enum-told27 .given .1))
     (λ c. row (c .enum-told28 .given .1)) (λ c. row (c .enum-told29 .given .1)) (λ c. row (c .enum-told30 .given .1))
     (λ c. row (c .enum-told31 .given .1)) (λ c. row (c .enum-told32 .given .1)) (λ c. row (c .enum-told33 .given .1))
-    (λ c. row (c .enum-told34 .given .1)) (λ c. row (c .enum-told35 .given .1)))
+    (λ c. row (c .enum-told34 .given .1)) (λ c. row (c .enum-told35 .given .1)) (λ c. row (c .enum-told36 .given .1)))
