@@ -3,7 +3,7 @@ use Prim.Native.Nat.{ℕ}
 use mathlib.Core.Path.{_≡_, refl}
 use Rattle.format.specs.declared.Format.{Format}
 use Rattle.format.specs.declared.Field.the-variants.{UserData, ScanAngle, PointSourceId, GpsTime, Color, Nir, Waveform, ExtraBytes}
-use Rattle.format.specs.Fields.{placeOf}
+use Rattle.format.specs.Fields.{placeOf, recordBytes}
 use Rattle.layout.specs.declared.Places.{Places}
 use Rattle.layout.specs.declared.Layout.{Layout}
 use Rattle.layout.specs.Layout.{placesOf, layoutOf}
@@ -20,11 +20,12 @@ pub placed : (f : Format) {at : Places} → at ≡ placesOf f → Placed f at
 unfolding placesOf
 placed f e = rw e (record { source = refl; time = refl; color = refl; nir = refl; waveform = refl; extra = refl })
 
--- and so are those that `Layout` alone has
+-- and so are those that `Layout` alone has, with the record's length
 pub record Laid (f : Format) (at : Layout) : Type 0 where
   pub user-data : at .«user_data» ≡ placeOf f UserData
   pub angle : at .«scan_angle» ≡ placeOf f ScanAngle
+  pub long : at .«record_len» ≡ recordBytes f
 
 pub laid : (f : Format) {at : Layout} → at ≡ layoutOf f → Laid f at
 unfolding layoutOf
-laid f e = rw e (record { user-data = refl; angle = refl })
+laid f e = rw e (record { user-data = refl; angle = refl; long = refl })

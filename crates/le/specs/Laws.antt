@@ -153,6 +153,11 @@ unfolding num
 num-set w at s p x (inl h) = sym (num-take w at (set s p x) p h) ∙ ap (num w at) (take-set-le p s p x (omega arith)) ∙ num-take w at s p h
 num-set w at s p x (inr h) = ap (le w) (drop-set-lt at s p x h)
 
+-- and a number of a part stands in the whole
+pub num-part : (w k n at : ℕ) (s : List ℕ) → k + w ≤ n → num w k (take n (drop at s)) ≡ num w (at + k) s
+unfolding num
+num-part w k n at s h = num-take w k (drop at s) n h ∙ rw drop-drop
+
 -- the number at a place where its bytes stand
 pub num-bytes : (w at : ℕ) (s : List ℕ) (x : ℕ) → x < 256 ^ w → take w (drop at s) ≡ bytes w x → num w at s ≡ x
 unfolding num

@@ -5,17 +5,29 @@ use mathlib.Core.List.{List}
 use lib.ListN.{take, drop}
 use denote.Ref.{RefT, now}
 use Rattle.le.specs.Le.{Bytes}
+use Rattle.refusal.specs.declared.Refusal.{Refusal}
 use Rattle.format.specs.Fields.{recordBytes}
 use Rattle.header.specs.Judged.{readOf}
 use Rattle.outline.specs.declared.Outline.{Outline}
 use Rattle.outline.specs.Outline.{outlineOf}
-use Rattle.rules.specs.declared.Checked.the-variants.{Accepted}
+use Rattle.rules.specs.declared.Checked.the-variants.{Accepted, Refused}
 use Rattle.file.specs.Rules.{checkedOf}
 use Rattle.file.specs.Points.{pointFormat, length-fits, format-long}
 use Rattle.file.specs.Theorems.{accepted-holds}
+use Rattle.walker.specs.declared.Start.the-variants as start
 use Rattle.walker.specs.declared.Walker.{Walker}
-use Rattle.walker.specs.Begin.{firstPlace, beginOf, walkerOf}
+use Rattle.walker.specs.Begin.{firstPlace, refusedPlace, beginOf, walkerOf}
 use Rattle.walker.specs.Steps.{Ready, nthRecord}
+
+-- where a walker starts: of an accepted file before the first of its points, in the header's format, and of a refused one with the refusal
+module _ (allowance : ℕ) (s : List ℕ) where
+  pub begins : {n : ℕ} → checkedOf allowance s ≡ Accepted n → (let p = beginOf allowance s in let o = outlineOf (readOf s .header) in (p .format ≡ pointFormat o) × (p .at ≡ o .«offset_to_point_data») × (p .count ≡ o .«number_of_point_records») × (p .start ≡ start.Accepted))
+  unfolding beginOf firstPlace
+  begins accepted = rw accepted (refl, refl, refl, refl)
+
+  pub begins-refused : {r : Refusal} {m n : ℕ} → checkedOf allowance s ≡ Refused r m n → beginOf allowance s .start ≡ start.Refused r m
+  unfolding beginOf refusedPlace
+  begins-refused refused = rw refused
 
 -- the walker before the first point
 abbrev pub firstOf : RefT (List ℕ) → Walker
