@@ -48,6 +48,7 @@ void test_points(void);
 void test_vlrs(void);
 void test_headers(void);
 void test_files(void);
+void test_columns(void);
 void test_append(void);
 void test_reclassify(void);
 void test_conversion(void);

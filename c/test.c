@@ -94,6 +94,7 @@ int main(int argc, char **argv) {
     test_vlrs();
     test_headers();
     test_files();
+    test_columns();
     test_append();
     test_reclassify();
     test_conversion();

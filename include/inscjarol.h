@@ -6,7 +6,7 @@
  *
  * Link with libinscjarol.a, which the script tools/libraries writes into target/staticlib/.
  *
- * What is lent. A slice is a pointer and its length, in bytes for uint8_t and in numbers for uint64_t; an array has the
+ * What is lent. A slice is a pointer and its length, in bytes for uint8_t and in numbers for every other type; an array has the
  * length that its declaration states. No pointer may be NULL, not even that of an empty slice: lend any address, with the
  * length 0. Memory that a call writes may not overlap anything else that is lent to the same call.
  *
@@ -511,6 +511,41 @@ void las_file_record(const uint8_t *file, size_t file_len, const uint64_t place[
  * Refuses as las_file_check does, then with LAS_REFUSED_NO_ROOM, and leaves dst. */
 void las_file_rewrite(const uint8_t *file, size_t file_len, uint64_t allowance, uint8_t *dst, size_t dst_len,
                       uint64_t row[3]);
+
+/* ---- columns ---- */
+
+/* One field of many points, taken straight from its place in each record, for a viewer that wants no more of them: count
+ * points from point number first on, the first of the file being 1, go to the front of dst, what lies past them staying;
+ * the value is the count. Each entry is what las_file_next tells of that point. Each function refuses as las_file_check
+ * does, then with LAS_REFUSED_FIELD_LACKING where the format of the points does not have the field, whether there are
+ * points or not; LAS_REFUSED_INDEX where the stretch is not within the points: an empty one may begin right behind the
+ * last; LAS_REFUSED_NO_ROOM, with the count, where dst has fewer entries; and leaves dst. */
+
+/* X, Y and Z, the stored whole numbers. */
+void las_column_x(const uint8_t *file, size_t file_len, uint64_t allowance, uint64_t first, uint64_t count, int32_t *dst,
+                  size_t dst_len, uint64_t row[3]);
+void las_column_y(const uint8_t *file, size_t file_len, uint64_t allowance, uint64_t first, uint64_t count, int32_t *dst,
+                  size_t dst_len, uint64_t row[3]);
+void las_column_z(const uint8_t *file, size_t file_len, uint64_t allowance, uint64_t first, uint64_t count, int32_t *dst,
+                  size_t dst_len, uint64_t row[3]);
+
+/* The time, as a double. Of a NaN it is promised that it is one, and not which. */
+void las_column_time(const uint8_t *file, size_t file_len, uint64_t allowance, uint64_t first, uint64_t count, double *dst,
+                     size_t dst_len, uint64_t row[3]);
+
+/* The time by its bits, every pattern kept. */
+void las_column_time_bits(const uint8_t *file, size_t file_len, uint64_t allowance, uint64_t first, uint64_t count,
+                          uint64_t *dst, size_t dst_len, uint64_t row[3]);
+
+/* The colours and near infrared. */
+void las_column_red(const uint8_t *file, size_t file_len, uint64_t allowance, uint64_t first, uint64_t count, uint16_t *dst,
+                    size_t dst_len, uint64_t row[3]);
+void las_column_green(const uint8_t *file, size_t file_len, uint64_t allowance, uint64_t first, uint64_t count, uint16_t *dst,
+                      size_t dst_len, uint64_t row[3]);
+void las_column_blue(const uint8_t *file, size_t file_len, uint64_t allowance, uint64_t first, uint64_t count, uint16_t *dst,
+                     size_t dst_len, uint64_t row[3]);
+void las_column_nir(const uint8_t *file, size_t file_len, uint64_t allowance, uint64_t first, uint64_t count, uint16_t *dst,
+                    size_t dst_len, uint64_t row[3]);
 
 /* ---- appending ---- */
 
