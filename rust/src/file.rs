@@ -29,7 +29,7 @@ pub struct Checked {
 #[derive(Clone, Copy, Debug)]
 pub struct File<'a> {
     bytes: &'a [u8],
-    allowance: u64,
+    pub(crate) allowance: u64,
     header: Header,
     format: Format,
     /// Before the first point.
@@ -160,7 +160,8 @@ impl<'a> File<'a> {
     }
 
     /// The points, each in turn. `len` and `count` say how many are left, and `nth` and `last` go there, without reading what
-    /// lies between. Asking for the points costs nothing: the file was checked when it was made a [`File`].
+    /// lies between. Asking for the points costs nothing: the file was checked when it was made a [`File`]. Who wants one field
+    /// of many points, or their places or colours, has them faster by [`columns`](crate::columns).
     ///
     /// ```
     /// # let bytes = std::fs::read("../samples/stockpile.las")?;

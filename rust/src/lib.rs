@@ -63,6 +63,9 @@
 //! # }
 //! ```
 //!
+//! A viewer wants one field of many points, or their places or their colours, and takes [`columns`]: [`File::column`] fills a buffer
+//! that is lent, and nothing else is read.
+//!
 //! A whole file of LAS 1.2 becomes one of LAS 1.4, for clients who move to newer software, by [`File::to_new`], and comes back by
 //! [`File::to_old`].
 //!
@@ -90,6 +93,7 @@
 
 mod angle;
 mod append;
+pub mod columns;
 mod convert;
 mod error;
 mod file;
@@ -108,6 +112,7 @@ mod writer;
 
 pub use angle::ScanAngle;
 pub use append::{Append, Appended, Offer, Sector, Step, Sweep};
+pub use columns::{Column, Stretch};
 pub use convert::Run;
 pub use error::Error;
 pub use file::{allowance_for, Checked, File, Part, PartKind, Parts, Points, Vlrs};

@@ -4,7 +4,9 @@
 use crate::refusal::Refusal;
 use inscjarol_sys as calls;
 pub(crate) use inscjarol_sys::{
-    BoundsNumbers, Cursor, HeaderNumbers, Place, PointNumbers, Sweep, VlrHead,
+    las_column_blue, las_column_green, las_column_nir, las_column_red, las_column_time,
+    las_column_time_bits, las_column_x, las_column_y, las_column_z, BoundsNumbers, Cursor,
+    HeaderNumbers, Place, PointNumbers, Sweep, VlrHead,
 };
 
 /// A row's answer: its value where the number is 0, else the refusal.
@@ -312,6 +314,20 @@ pub(crate) fn file_to_old(file: &[u8], allowance: u64, dst: &mut [u8]) -> Result
 
 pub(crate) fn file_to_new(file: &[u8], allowance: u64, dst: &mut [u8]) -> Result<usize, Refusal> {
     asked(|row| calls::las_file_to_new(file, allowance, dst, row)).map(in_memory)
+}
+
+/// A call that fills a column of numbers of this type.
+pub(crate) type Fill<N> = fn(&[u8], u64, u64, u64, &mut [N], &mut calls::Row);
+
+/// How many entries were filled, of points from the first on.
+pub(crate) fn column<N>(
+    fill: Fill<N>,
+    file: &[u8],
+    allowance: u64,
+    (first, count): (u64, u64),
+    dst: &mut [N],
+) -> Result<usize, Refusal> {
+    asked(|row| fill(file, allowance, first, count, dst, row)).map(in_memory)
 }
 
 // Calls that append records: an offer is the records, how many they are, and how many points are believed to be there.

@@ -35,6 +35,9 @@ fn declared(types: Types) -> Types {
             "&[u8]" => &["*const u8", "usize"],
             "&mut [u8]" => &["*mut u8", "usize"],
             "&mut [u64]" => &["*mut u64", "usize"],
+            "&mut [i32]" => &["*mut i32", "usize"],
+            "&mut [u16]" => &["*mut u16", "usize"],
+            "&mut [f64]" => &["*mut f64", "usize"],
             "bool" if place > answers => &["u8"],
             other => return vec![other.to_string()],
         };
@@ -62,7 +65,7 @@ fn declarations_are_those_of_the_sources() {
     assert!(exported.len() > 40);
 
     let sys = fs::read_to_string(here.join("sys/src/lib.rs")).unwrap();
-    let ours: BTreeMap<String, Types> = ["\ntotal! {", "\nmod lent {"]
+    let ours: BTreeMap<String, Types> = ["\ntotal! {", "\nmod lent {", "\ncolumns! {"]
         .iter()
         .flat_map(|begin| {
             let (_, block) = sys.split_once(begin).unwrap();

@@ -673,6 +673,73 @@ pub fn las_file_to_new(file: &[u8], allowance: u64, dst: &mut [u8], row: &mut Ro
     unsafe { lent::las_file_to_new(file.as_ptr(), file.len(), allowance, to, to_len, row) }
 }
 
+/// Declares calls that fill columns, and makes them safe.
+macro_rules! columns {
+    ($($(#[$says:meta])* fn $name:ident(
+        file: *const u8, len: usize, allowance: u64, first: u64, count: u64, dst: *mut $entry:ty, dst_len: usize, row: &mut Row
+    );)*) => {
+        mod columns {
+            use super::Row;
+
+            extern "C" {
+                $(pub(super) fn $name(
+                    file: *const u8, len: usize, allowance: u64, first: u64, count: u64, dst: *mut $entry, dst_len: usize, row: &mut Row
+                );)*
+            }
+        }
+
+        $(
+            $(#[$says])*
+            #[inline]
+            pub fn $name(file: &[u8], allowance: u64, first: u64, count: u64, dst: &mut [$entry], row: &mut Row) {
+                let (from, len) = (file.as_ptr(), file.len());
+                let (to, to_len) = (dst.as_mut_ptr(), dst.len());
+                // SAFETY: both pointers go with the lengths of their borrowed slices, of which the one written to is borrowed alone.
+                unsafe { columns::$name(from, len, allowance, first, count, to, to_len, row) }
+            }
+        )*
+    };
+}
+
+columns! {
+    /// X of so many points from the first on, counted from 1.
+    fn las_column_x(
+        file: *const u8, len: usize, allowance: u64, first: u64, count: u64, dst: *mut i32, dst_len: usize, row: &mut Row
+    );
+    /// Y of them.
+    fn las_column_y(
+        file: *const u8, len: usize, allowance: u64, first: u64, count: u64, dst: *mut i32, dst_len: usize, row: &mut Row
+    );
+    /// Z of them.
+    fn las_column_z(
+        file: *const u8, len: usize, allowance: u64, first: u64, count: u64, dst: *mut i32, dst_len: usize, row: &mut Row
+    );
+    /// The time of them.
+    fn las_column_time(
+        file: *const u8, len: usize, allowance: u64, first: u64, count: u64, dst: *mut f64, dst_len: usize, row: &mut Row
+    );
+    /// The time of them by its bits.
+    fn las_column_time_bits(
+        file: *const u8, len: usize, allowance: u64, first: u64, count: u64, dst: *mut u64, dst_len: usize, row: &mut Row
+    );
+    /// Red of them.
+    fn las_column_red(
+        file: *const u8, len: usize, allowance: u64, first: u64, count: u64, dst: *mut u16, dst_len: usize, row: &mut Row
+    );
+    /// Green of them.
+    fn las_column_green(
+        file: *const u8, len: usize, allowance: u64, first: u64, count: u64, dst: *mut u16, dst_len: usize, row: &mut Row
+    );
+    /// Blue of them.
+    fn las_column_blue(
+        file: *const u8, len: usize, allowance: u64, first: u64, count: u64, dst: *mut u16, dst_len: usize, row: &mut Row
+    );
+    /// Near infrared of them.
+    fn las_column_nir(
+        file: *const u8, len: usize, allowance: u64, first: u64, count: u64, dst: *mut u16, dst_len: usize, row: &mut Row
+    );
+}
+
 // Calls that append records: an offer is the records, how many they are, and how many points are believed to be there.
 
 /// Adds the records to the file, with these bounds; the value is 0 where they are added and 1 where they are already in.
