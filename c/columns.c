@@ -156,6 +156,13 @@ void test_columns(void) {
     las_column_time(file, len, UINT64_MAX, 2, 1, time, 1, row);
     CHECK(told(row, LAS_OK, 1, 0) && isnan(time[0]));
 
+    /* VLRs, gaps and EVLRs around the points; the record number of the file check's refusal stays */
+    len = make_file(file, sizeof file);
+    ask(TIME, file, len, 1, 1, 1, ROOM, left, row);
+    CHECK(told(row, LAS_REFUSED_ALLOWANCE, 1, 2) && stay(TIME, left, 0));
+    ask(TIME, file, len, 2, 2, 2, ROOM, left, row);
+    CHECK(told(row, LAS_OK, 2, 0) && left[0] == double_bits(1.5) && left[1] == double_bits(2.5) && stay(TIME, left, 2));
+
     /* without points an empty stretch begins at 1, and what the format lacks is told all the same */
     new_header(numbers, 4, 0);
     las_header_write(numbers, guid, system_identifier, software, nothing, 0, file, sizeof file, row);
