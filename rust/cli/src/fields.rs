@@ -336,13 +336,14 @@ impl Row {
         })
     }
 
+    /// The names of its columns, in their order.
+    pub(crate) fn names(&self) -> impl Iterator<Item = &str> {
+        self.columns.iter().map(|column| column.name.as_str())
+    }
+
     /// The line of names.
     pub(crate) fn heading(&self) -> String {
-        let names: Vec<String> = self
-            .columns
-            .iter()
-            .map(|column| csv(&column.name))
-            .collect();
+        let names: Vec<String> = self.names().map(csv).collect();
         names.join(",")
     }
 

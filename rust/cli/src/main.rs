@@ -25,6 +25,7 @@ mod args;
 mod ask;
 mod check;
 mod classify;
+mod columns;
 mod convert;
 mod decimal;
 mod documented;

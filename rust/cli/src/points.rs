@@ -2,6 +2,7 @@
 
 use super::{
     args::{Opt, Words},
+    columns::{Columns, STRETCH},
     extra,
     fields::{Choice, Row},
     input::{self, Input, Name},
@@ -9,7 +10,7 @@ use super::{
     progress::Progress,
     Command, Failure, Status,
 };
-use inscjarol::File;
+use inscjarol::{File, Point};
 
 pub(crate) const COMMAND: Command = Command {
     name: "points",
@@ -102,7 +103,7 @@ impl Asked {
 fn write(asked: &Asked, name: &Name, file: &File<'_>, out: &mut Output) -> Result<Status, Failure> {
     let (header, format) = (file.header(), file.format());
     let row = Row::new(&asked.choice, asked.raw, header, &format, &extra::of(file));
-    let mut row = row.map_err(Failure::Usage)?;
+    let row = row.map_err(Failure::Usage)?;
     let total = file
         .point_count()
         .saturating_sub(asked.skip)
@@ -111,28 +112,98 @@ fn write(asked: &Asked, name: &Name, file: &File<'_>, out: &mut Output) -> Resul
     if !out.json {
         out.line(&row.heading())?;
     }
-    let progress = Progress::of_output(format!("points of {name}"), total);
+    let columns = Columns::of(&row, file);
+    let mut lines = Lines {
+        row,
+        out,
+        gathered: Vec::with_capacity(GATHERED.saturating_mul(2)),
+        progress: Progress::of_output(format!("points of {name}"), total),
+        done: 0,
+    };
+    match columns {
+        Some(columns) => by_columns(columns, name, file, (asked.skip, total), &mut lines),
+        None => by_walking(file, (asked.skip, total), &mut lines),
+    }
+}
+
+/// Writes so many points after those that are skipped, each read whole.
+fn by_walking(
+    file: &File<'_>,
+    (skip, total): (u64, u64),
+    lines: &mut Lines<'_>,
+) -> Result<Status, Failure> {
     let mut points = file.points();
-    if let Some(last) = asked.skip.checked_sub(1) {
+    if let Some(last) = skip.checked_sub(1) {
         points.nth(usize::try_from(last).unwrap_or(usize::MAX));
     }
-    let mut lines = Vec::with_capacity(GATHERED.saturating_mul(2));
-    for done in 0..total {
+    for _ in 0..total {
         // Looked at where it is: a point is large.
-        let point = points.next();
-        match &point {
-            Some(point) if out.json => row.json(point, &mut lines),
-            Some(point) => row.csv(point, &mut lines),
+        match &points.next() {
+            Some(point) => lines.point(point)?,
             None => break,
         }
-        if lines.len() >= GATHERED {
-            out.bytes(&lines)?;
-            lines.clear();
-            if let Some(progress) = &progress {
-                progress.at(done);
-            }
+    }
+    lines.let_go()?;
+    Ok(Status::Done)
+}
+
+/// The same, stretch by stretch. Nothing is refused, unless another program changes the file meanwhile.
+fn by_columns(
+    mut columns: Columns,
+    name: &Name,
+    file: &File<'_>,
+    (skip, total): (u64, u64),
+    lines: &mut Lines<'_>,
+) -> Result<Status, Failure> {
+    let end = skip.saturating_add(total);
+    let mut done = skip;
+    while done < end {
+        let count = STRETCH.min(usize::try_from(end.saturating_sub(done)).unwrap_or(STRETCH));
+        let last = done.saturating_add(count as u64);
+        if let Err(refusal) = columns.fill(file, done.saturating_add(1)..=last) {
+            lines.let_go()?;
+            return lines.out.refused(name, &refusal);
+        }
+        for place in 0..count {
+            lines.point(&columns.point(place))?;
+        }
+        done = last;
+    }
+    lines.let_go()?;
+    Ok(Status::Done)
+}
+
+/// The lines of points, gathered before they are written.
+struct Lines<'a> {
+    row: Row,
+    out: &'a mut Output,
+    gathered: Vec<u8>,
+    progress: Option<Progress>,
+    /// How many points they are by now.
+    done: u64,
+}
+
+impl Lines<'_> {
+    #[inline]
+    fn point(&mut self, point: &Point<'_>) -> Result<(), Failure> {
+        match self.out.json {
+            true => self.row.json(point, &mut self.gathered),
+            false => self.row.csv(point, &mut self.gathered),
+        }
+        self.done = self.done.saturating_add(1);
+        match self.gathered.len() {
+            GATHERED.. => self.let_go(),
+            _ => Ok(()),
         }
     }
-    out.bytes(&lines)?;
-    Ok(Status::Done)
+
+    /// Writes what is gathered.
+    fn let_go(&mut self) -> Result<(), Failure> {
+        self.out.bytes(&self.gathered)?;
+        self.gathered.clear();
+        if let Some(progress) = &self.progress {
+            progress.at(self.done);
+        }
+        Ok(())
+    }
 }
