@@ -3,15 +3,13 @@
 //!
 //! Every round times each contender once, in turn, so that what slows the machine for a while slows them all.
 
-mod append;
-mod by_hand;
-mod large;
-mod reclassify;
-mod whole;
-mod work;
-
-use std::{hint::black_box, time::Instant};
-use work::{CHECKS, Work};
+use bench::{
+    append, large, reclassify,
+    times::{Times, rounds, timed},
+    whole,
+    work::{CHECKS, Work},
+};
+use std::hint::black_box;
 
 /// The same work done three ways, over so many records of a format code.
 struct Line {
@@ -137,38 +135,11 @@ const LINES: [Line; 12] = [
 const GROWING: [Line; 4] = [WALK, REWRITE, TO_OLD, CHECK];
 const SIZES: [usize; 5] = [1_000, 10_000, 100_000, 1_000_000, 10_000_000];
 
-/// What one contender took in each round, in nanoseconds a record or a call.
-struct Times(Vec<f64>);
-
-impl Times {
-    fn median(&mut self) -> f64 {
-        self.0.sort_by(f64::total_cmp);
-        self.0[self.0.len() / 2]
-    }
-
-    /// The shortest, which a busy machine disturbs the least.
-    fn shortest(&self) -> f64 {
-        self.0.iter().copied().fold(f64::INFINITY, f64::min)
-    }
-}
-
-/// What so many units of work took, in nanoseconds a unit.
-fn timed(units: usize, work: impl FnOnce()) -> f64 {
-    let start = Instant::now();
-    work();
-    start.elapsed().as_nanos() as f64 / units as f64
-}
-
 /// How many rounds a large file, or a class that is set, is timed for.
 const LARGE_ROUNDS: usize = 401;
 
 /// How many rounds an append is timed for.
 const APPEND_ROUNDS: usize = 2_001;
-
-/// How many rounds a line of so many records is timed for; an odd number, for the median.
-fn rounds(records: usize) -> usize {
-    (100_000_000 / records).clamp(11, 401) | 1
-}
 
 impl Line {
     /// What is timed once, and so what its time is divided by.

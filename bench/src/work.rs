@@ -19,10 +19,10 @@ const VLRS: usize = 3;
 const VLR: usize = 54;
 const EVLRS: usize = 3;
 pub const EVLR: usize = 60;
-const POINTS_AT: usize = HEADER + VLRS * VLR;
+pub const POINTS_AT: usize = HEADER + VLRS * VLR;
 
 /// An allowance that the file does not use up.
-const MANY: u64 = 1_300;
+pub const MANY: u64 = 1_300;
 
 /// Points that are kept as such, for the writers, and records that differ: longer runs repeat them.
 const KEPT: usize = 65_536;
@@ -141,7 +141,7 @@ impl Plan {
 }
 
 /// A file of so many records, with VLRs after its header and EVLRs at its end, all of them without data.
-fn file(code: u8, word: u32, record: usize, count: usize) -> Vec<u8> {
+pub fn file(code: u8, word: u32, record: usize, count: usize) -> Vec<u8> {
     let evlrs_at = POINTS_AT + count * record;
     let mut file = vec![0; evlrs_at + EVLRS * EVLR];
     let plan = Plan {
