@@ -1,14 +1,14 @@
 //! Runs every comparison and says whether nothing differed.
 
 use oracle::{
-    angle, append, convert, convert_plain, file, flags, format, header, listings, migrate, nir,
-    point, reclassify, replay, replay_append, replay_migrate, replay_reclassify, replay_records,
-    report::Tally, strict, vlr,
+    angle, append, column, convert, convert_plain, file, flags, format, header, listings, migrate,
+    nir, point, reclassify, replay, replay_append, replay_column, replay_migrate,
+    replay_reclassify, replay_records, report::Tally, strict, vlr,
 };
 use std::{env, fs, io, path::Path, process::ExitCode};
 
 /// What there is to compare, by the name that it is asked for by.
-const SUBJECTS: [&str; 15] = [
+const SUBJECTS: [&str; 16] = [
     "format",
     "flags",
     "angle",
@@ -16,6 +16,7 @@ const SUBJECTS: [&str; 15] = [
     "vlr",
     "header",
     "file",
+    "column",
     "append",
     "reclassify",
     "strict",
@@ -38,6 +39,7 @@ fn compare(crates: &Path, write: bool, asked: &[String]) -> io::Result<bool> {
         ("vlr", vlr::compare),
         ("header", header::compare),
         ("file", file::compare),
+        ("column", column::compare),
         ("append", append::compare),
         ("reclassify", reclassify::compare),
         ("strict", strict::compare),
@@ -56,6 +58,7 @@ fn compare(crates: &Path, write: bool, asked: &[String]) -> io::Result<bool> {
         replay::compare(&mut tally, &crates.join("replay"), write)?;
         replay_records::compare(&mut tally, &crates.join("replay_records"), write)?;
         listings::compare(&mut tally, &crates.join("listings"), write)?;
+        replay_column::compare(&mut tally, &crates.join("../c/replay_column"), write)?;
         replay_append::compare(&mut tally, &crates.join("../c/replay"), write)?;
         replay_migrate::compare(&mut tally, &crates.join("../c/replay_migrate"), write)?;
         replay_reclassify::compare(&mut tally, &crates.join("../c/replay_reclassify"), write)?;
