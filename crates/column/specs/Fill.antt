@@ -1,5 +1,5 @@
 -- "Prove the shared step once over the width of the field": the loop of every fill, over the width and what an entry holds.
-use Prim.Native.Nat.{ℕ, zero, suc, _+_, _*_, _-_, _≤_, _<_}
+use Prim.Native.Nat.{ℕ, zero, suc, _+_, _*_, _-_, _≤_, _<_, _^_}
 use mathlib.Core.Path.{_≡_, refl, ap, sym, _∙_}
 use mathlib.Core.Bool.{Bool, true, false}
 use mathlib.Core.List.{List, _∷_, _++_}
@@ -8,8 +8,12 @@ use native.Mathlib.Numerals.{add-one}
 use native.Mathlib.Omega.{arith}
 use borrow.Author.Tests.{leb-true, leb-false}
 use lib.Dec.{leb}
+use lib.IntN.{ℤ}
 use lib.ListN.{length, take, drop, set, getD, length-append, length-set}
 use lib.Seq.{drop-cons, set-at, getD-at, append-snoc}
+use mir.Syntax.{w32}
+use mir.Val.{toZ, ofZ}
+use mir.ValLaws.{ofZ-toZ}
 use Rattle.le.specs.Le.{num}
 use Rattle.le.specs.Laws.{num-part}
 use Rattle.column.specs.Column.{firsts, entryOf, filledOf, Lie}
@@ -41,6 +45,10 @@ module _ {A : Type 0} (f : ℕ → A) where
 -- the number in a part of s that is as long as the number
 in-part : (w at : ℕ) (s : List ℕ) → num w 0 (take (at + w - at) (drop at s)) ≡ num w at s
 in-part w at s = num-part w 0 (at + w - at) at s (omega arith) ∙ rw add-zero
+
+-- a number of four bytes that was read as a signed one is stored as such
+pub stored : (n : ℕ) {z : ℤ} → n < 256 ^ 4 → z ≡ toZ w32 n → toZ w32 (ofZ w32 z) ≡ toZ w32 n
+stored n h is = ap (λ (y : ℤ). toZ w32 (ofZ w32 y)) is ∙ ap (toZ w32) (ofZ-toZ w32 n (record { fits = omega arith }))
 
 -- before turn i of a loop that fills d from d₀, with n turns in all: the next number stands at `at`
 pub record Filling {A : Type 0} (value : ℕ → A) (w first stride n : ℕ) (s : List ℕ) (d₀ d : List A) (at i : ℕ) : Type 0 where
@@ -74,16 +82,20 @@ module _ {A : Type 0} {value : ℕ → A} {w first stride n : ℕ} {s : List ℕ
         }
 
     -- THE STEP: the number at its place stored, and one record further
-    pub step : {v : A} → i < n → n ≤ length d₀ → v ≡ value (num w 0 (take (at + w - at) (drop at s))) → Filling value w first stride n s d₀ (set d i v) (at + stride) (i + 1)
+    pub step-at : {v : A} → i < n → n ≤ length d₀ → v ≡ value (num w at s) → Filling value w first stride n s d₀ (set d i v) (at + stride) (i + 1)
     unfolding filledOf
-    step {v} h room is =
-        let entry : v ≡ entryOf value w first stride s i = is ∙ ap value (in-part w at s) ∙ ap (λ (k : ℕ). value (num w k s)) (inv .place) in
+    step-at {v} h room is =
+        let entry : v ≡ entryOf value w first stride s i = is ∙ ap (λ (k : ℕ). value (num w k s)) (inv .place) in
         record {
           below = omega arith;
           place = omega (arith, suc-mul i stride);
           kept = length-set d i v ∙ inv .kept;
           filled = rw (inv .filled, entry, add-one) (next-first (entryOf value w first stride s) i d₀ (omega arith));
         }
+
+    -- the number read from a part that is as long
+    pub step : {v : A} → i < n → n ≤ length d₀ → v ≡ value (num w 0 (take (at + w - at) (drop at s))) → Filling value w first stride n s d₀ (set d i v) (at + stride) (i + 1)
+    step h room is = step-at h room (is ∙ ap value (in-part w at s))
 
     pub done : n ≤ i → d ≡ filledOf value w first stride n s d₀
     done h = let e : i ≡ n = omega (arith, inv .below) in inv .filled ∙ ap (λ (k : ℕ). filledOf value w first stride k s d₀) e
