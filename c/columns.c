@@ -127,6 +127,34 @@ static void test_stretches(const uint8_t *file, size_t len, uint32_t format, int
     }
 }
 
+/* All three at once leave what each by itself leaves, and are refused where one of them is. */
+static void test_at_once(const uint8_t *file, size_t len) {
+    uint64_t row[3];
+    for (uint64_t first = 0; first <= POINTS + 2; first++) {
+        for (uint64_t count = 0; count <= POINTS + 1; count++) {
+            for (size_t short_one = 0; short_one < 4; short_one++) {
+                int32_t left[3][ROOM], alone[3][ROOM];
+                uint64_t answers[3][3];
+                size_t rooms[3] = {ROOM, ROOM, ROOM};
+                fill_bytes((uint8_t *)left, sizeof left);
+                fill_bytes((uint8_t *)alone, sizeof alone);
+                if (short_one < 3) {
+                    rooms[short_one] = POINTS - 1;
+                }
+                las_column_x(file, len, UINT64_MAX, first, count, alone[0], rooms[0], answers[0]);
+                las_column_y(file, len, UINT64_MAX, first, count, alone[1], rooms[1], answers[1]);
+                las_column_z(file, len, UINT64_MAX, first, count, alone[2], rooms[2], answers[2]);
+                const uint64_t *said = answers[short_one < 3 ? short_one : 0];
+                las_columns_xyz(file, len, UINT64_MAX, first, count, left[0], rooms[0], left[1], rooms[1], left[2], rooms[2],
+                                row);
+                CHECK(told(row, said[LAS_ROW_NUMBER], said[LAS_ROW_VALUE], said[LAS_ROW_RECORD]));
+                CHECK(said[LAS_ROW_NUMBER] == LAS_OK ? memcmp(left, alone, sizeof left) == 0
+                                                     : left_bytes((uint8_t *)left, sizeof left));
+            }
+        }
+    }
+}
+
 void test_columns(void) {
     uint64_t row[3], left[ROOM], numbers[LAS_HEADER_NUMBERS], bits;
     static uint8_t file[700];
@@ -135,6 +163,7 @@ void test_columns(void) {
     for (uint8_t code = 0; code <= 10; code++) {
         uint32_t format;
         size_t len = make_points(file, sizeof file, code, &format);
+        test_at_once(file, len);
         for (int column = 0; column < COLUMNS; column++) {
             test_stretches(file, len, format, column);
             /* the file check's refusals come first, whatever is asked for */

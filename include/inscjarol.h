@@ -529,6 +529,11 @@ void las_column_y(const uint8_t *file, size_t file_len, uint64_t allowance, uint
 void las_column_z(const uint8_t *file, size_t file_len, uint64_t allowance, uint64_t first, uint64_t count, int32_t *dst,
                   size_t dst_len, uint64_t row[3]);
 
+/* X, Y and Z in one pass over the records: each goes to the front of its slice, as its own function has it. Refuses as these do,
+ * with LAS_REFUSED_NO_ROOM where any of the three slices is too short, and leaves all three. */
+void las_columns_xyz(const uint8_t *file, size_t file_len, uint64_t allowance, uint64_t first, uint64_t count, int32_t *xs,
+                     size_t xs_len, int32_t *ys, size_t ys_len, int32_t *zs, size_t zs_len, uint64_t row[3]);
+
 /* The time, as a double. Of a NaN it is promised that it is one, and not which. */
 void las_column_time(const uint8_t *file, size_t file_len, uint64_t allowance, uint64_t first, uint64_t count, double *dst,
                      size_t dst_len, uint64_t row[3]);

@@ -10,6 +10,6 @@ abbrev pub filledRow : Filled → List ℕ
 filledRow (Entries n) = 0 ∷ n ∷ 0 ∷ []
 filledRow (Refused r k) = refusedRow r k
 
--- and the buffer beside it
-abbrev pub toldOf : {A : Type 0} → Filled × List A → List ℕ × List A
+-- and the buffer, or three of them, beside it
+abbrev pub toldOf : {A : Type 0} → Filled × A → List ℕ × A
 toldOf x = (filledRow (x .0), x .1)

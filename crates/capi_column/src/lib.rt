@@ -1,5 +1,5 @@
-// Columns for C and Rust, a function for each: X, Y and Z as whole numbers, the time as a float or by its bits, the colours and near
-// infrared. Rows are those of the crate words, and a row's value is the count of entries filled.
+// Columns for C and Rust, a function for each: X, Y and Z as whole numbers, by themselves or all three at once, the time as a float or by
+// its bits, the colours and near infrared. Rows are those of the crate words, and a row's value is the count of entries filled.
 ghost use mathlib.Core.Path.{_≡_};
 ghost use mir.Syntax.{w32};
 ghost use mir.Val.{toZ};
@@ -7,6 +7,7 @@ ghost use Rattle.column.specs.declared.Axis.the-variants as on;
 ghost use Rattle.column.specs.declared.Channel.the-variants as of;
 ghost use Rattle.column.specs.declared.Column.the-variants as col;
 ghost use Rattle.column.specs.Column.{same, real, columnOf};
+ghost use Rattle.column_xyz.specs.Xyz.{xyzOf};
 ghost use Rattle.capi_column.specs.Rows.{filledRow, toldOf};
 use column::Axis;
 use column::Channel;
@@ -145,6 +146,26 @@ pub extern "C" fn las_column_nir(
     ensures { λ _. ⌜ (now (row .exit), now (dst .exit)) ≡ toldOf (columnOf same (col.Channel of.Nir) allowance first count (now (file .entry)) (now (dst .entry))) ⌝ }
 {
     channel(file, allowance, Channel::Nir, first, count, dst, row)
+}
+
+// X, Y and Z of a stretch of points in one pass, at the fronts of xs, ys and zs.
+#[no_mangle]
+pub extern "C" fn las_columns_xyz(
+    file: &[u8],
+    allowance: u64,
+    first: u64,
+    count: u64,
+    xs: &mut [i32],
+    ys: &mut [i32],
+    zs: &mut [i32],
+    row: &mut [u64; 3],
+)
+    ensures { λ _. ⌜ (now (row .exit), (now (xs .exit), now (ys .exit), now (zs .exit))) ≡ toldOf (xyzOf allowance first count (now (file .entry)) (now (xs .entry)) (now (ys .entry)) (now (zs .entry))) ⌝ }
+{
+    tell(
+        column_xyz::xyz_columns(file, allowance, first, count, xs, ys, zs),
+        row,
+    )
 }
 
 // A column of whole numbers.
