@@ -196,6 +196,30 @@ impl File<'_> {
         Ok(entries)
     }
 
+    /// Fills the fronts of three buffers with X, Y and Z of these points, in one pass over their records, and answers how many they are; what
+    /// lies past them stays. It leaves what [`File::column`] leaves of each, and is faster than three calls of that.
+    ///
+    /// Refused as they are; with 22 where any of the three has fewer entries, and then all are left as they were.
+    ///
+    /// ```
+    /// # let bytes = std::fs::read("../samples/stockpile.las")?;
+    /// let file = inscjarol::File::check(&bytes)?;
+    /// let [mut xs, mut ys, mut zs] = [(); 3].map(|()| vec![0; file.points().len()]);
+    /// file.xyz(.., &mut xs, &mut ys, &mut zs)?;
+    /// assert_eq!(zs, file.column_to_vec(inscjarol::columns::Z, ..)?);
+    /// # Ok::<(), Box<dyn std::error::Error>>(())
+    /// ```
+    pub fn xyz(
+        &self,
+        points: impl Into<Stretch>,
+        xs: &mut [i32],
+        ys: &mut [i32],
+        zs: &mut [i32],
+    ) -> Result<usize, Refusal> {
+        let stretch = points.into().in_file(self.point_count());
+        sys::columns_xyz(self.bytes(), self.allowance, stretch, (xs, ys, zs))
+    }
+
     /// The coordinates of these points, by the header's scale and offset, as [`Header::x`] and its neighbours have them.
     ///
     /// ```
@@ -209,15 +233,13 @@ impl File<'_> {
     /// [`Header::x`]: crate::Header::x
     pub fn xyz_to_vec(&self, points: impl Into<Stretch>) -> Result<Vec<[f64; 3]>, Refusal> {
         let (points, header) = (points.into(), self.header());
-        let mut places = vec![[0.0; 3]; self.entries(X, points)?];
-        let mut stored = vec![0; places.len()];
-        self.column(X, points, &mut stored)?;
-        put(&stored, &mut places, |[x, _, _], n| *x = header.x(n));
-        self.column(Y, points, &mut stored)?;
-        put(&stored, &mut places, |[_, y, _], n| *y = header.y(n));
-        self.column(Z, points, &mut stored)?;
-        put(&stored, &mut places, |[_, _, z], n| *z = header.z(n));
-        Ok(places)
+        let count = self.entries(X, points)?;
+        let [mut xs, mut ys, mut zs] = [(); 3].map(|()| vec![0; count]);
+        self.xyz(points, &mut xs, &mut ys, &mut zs)?;
+        let stored = xs.iter().zip(&ys).zip(&zs);
+        Ok(stored
+            .map(|((x, y), z)| [header.x(*x), header.y(*y), header.z(*z)])
+            .collect())
     }
 
     /// The colours of these points; refused with 36 where the points' format has none.

@@ -330,6 +330,16 @@ pub(crate) fn column<N>(
     asked(|row| fill(file, allowance, first, count, dst, row)).map(in_memory)
 }
 
+/// How many entries of each were filled with X, Y and Z, of points from the first on.
+pub(crate) fn columns_xyz(
+    file: &[u8],
+    allowance: u64,
+    stretch: (u64, u64),
+    to: (&mut [i32], &mut [i32], &mut [i32]),
+) -> Result<usize, Refusal> {
+    asked(|row| calls::las_columns_xyz(file, allowance, stretch, to, row)).map(in_memory)
+}
+
 // Calls that append records: an offer is the records, how many they are, and how many points are believed to be there.
 
 /// Whether the records were already in; else they were added.

@@ -402,6 +402,20 @@ mod lent {
             dst_len: usize,
             row: &mut Row,
         );
+        pub(super) fn las_columns_xyz(
+            file: *const u8,
+            len: usize,
+            allowance: u64,
+            first: u64,
+            count: u64,
+            xs: *mut i32,
+            xs_len: usize,
+            ys: *mut i32,
+            ys_len: usize,
+            zs: *mut i32,
+            zs_len: usize,
+            row: &mut Row,
+        );
     }
 }
 
@@ -738,6 +752,28 @@ columns! {
     fn las_column_nir(
         file: *const u8, len: usize, allowance: u64, first: u64, count: u64, dst: *mut u16, dst_len: usize, row: &mut Row
     );
+}
+
+/// X, Y and Z of so many points from the first on, counted from 1, in one pass.
+#[inline]
+pub fn las_columns_xyz(
+    file: &[u8],
+    allowance: u64,
+    stretch: (u64, u64),
+    to: (&mut [i32], &mut [i32], &mut [i32]),
+    row: &mut Row,
+) {
+    let ((first, count), (xs, ys, zs)) = (stretch, to);
+    let (from, len) = (file.as_ptr(), file.len());
+    let (x, x_len) = (xs.as_mut_ptr(), xs.len());
+    let (y, y_len) = (ys.as_mut_ptr(), ys.len());
+    let (z, z_len) = (zs.as_mut_ptr(), zs.len());
+    // SAFETY: all pointers go with the lengths of their borrowed slices, of which each that is written to is borrowed alone.
+    unsafe {
+        lent::las_columns_xyz(
+            from, len, allowance, first, count, x, x_len, y, y_len, z, z_len, row,
+        )
+    }
 }
 
 // Calls that append records: an offer is the records, how many they are, and how many points are believed to be there.
