@@ -177,6 +177,64 @@ fn stretches_by_chance() {
     }
 }
 
+/// That X, Y and Z of a stretch in one pass are the three columns, into buffers of these lengths, of which 9 stands for what is needed, 8 for one
+/// less, and so on.
+fn is_three(file: &File<'_>, points: Stretch, rooms: [usize; 3]) {
+    let columns = [
+        told(file.column_to_vec(X, points)),
+        told(file.column_to_vec(Y, points)),
+        told(file.column_to_vec(Z, points)),
+    ];
+    let needed = columns[0].as_ref().map_or(4, Vec::len);
+    let mut left = [(); 3].map(|()| vec![i32::HELD; needed + 3]);
+    let mut dst = left.clone();
+    let rooms = rooms.map(|room| (needed + room).saturating_sub(9));
+    let [xs, ys, zs] = &mut dst;
+    let answer = told(file.xyz(
+        points,
+        &mut xs[..rooms[0]],
+        &mut ys[..rooms[1]],
+        &mut zs[..rooms[2]],
+    ));
+    let expected = match &columns[0] {
+        Ok(_) if rooms.iter().any(|room| *room < needed) => Err((22, needed as u64, 0)),
+        Ok(_) => {
+            for (left, column) in left.iter_mut().zip(&columns) {
+                left[..needed].copy_from_slice(column.as_ref().unwrap());
+            }
+            Ok(needed)
+        }
+        Err(refusal) => Err(*refusal),
+    };
+    assert_eq!(answer, expected);
+    assert_eq!(dst, left);
+}
+
+#[test]
+fn three_columns_in_one_pass() {
+    for code in 0..=10 {
+        for extra in [0, 2] {
+            let bytes = rich(code, extra);
+            let file = File::check(&bytes).unwrap();
+            for first in 0..=7 {
+                for last in 0..=7 {
+                    for rooms in [
+                        [9, 9, 9],
+                        [12, 10, 11],
+                        [8, 9, 9],
+                        [9, 8, 12],
+                        [9, 11, 8],
+                        [0, 0, 0],
+                    ] {
+                        is_three(&file, Stretch::from(first..=last), rooms);
+                    }
+                }
+            }
+            is_three(&file, Stretch::from(..), [10, 9, 9]);
+        }
+    }
+}
+
 #[test]
 fn refusals_come_in_their_order() {
     let bytes = rich(6, 0);
