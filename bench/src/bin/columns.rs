@@ -1,10 +1,11 @@
-//! Times columns of points, the port's and those of the Rust's `PointData`, beside the port's walker and memcpy, and prints the figures
-//! as a table in Markdown.
+//! Times columns of points, the port's and those of the Rust's `PointData`, beside the port's walker and memcpy, then X, Y and Z in one pass,
+//! beside a loop by hand, and how that grows, and prints the figures as tables in Markdown.
 //!
 //! It is a program of its own: where the Rust's iterators are used more often, the compiler leaves calls of them in the loops, which
 //! take longer then. Here no call is left, which `bench/run` sees to.
 
 use bench::{
+    by_hand,
     times::{Times, rounds, timed},
     work::{MANY, POINTS_AT, file},
 };
@@ -15,9 +16,12 @@ use oracle::{
 };
 use std::hint::black_box;
 
-/// The format of the records, which has a time and colours, and how many there are.
+/// The format of the records, which has a time and colours, and how many there are where no other number is said.
 const CODE: u8 = 3;
 const RECORDS: usize = 65_536;
+
+/// How many records there are to see how the cost grows.
+const GROWING: [usize; 5] = [1_000, 10_000, 100_000, 1_000_000, 10_000_000];
 
 /// What is filled; all of it has been written to before anything is timed.
 #[derive(PartialEq)]
@@ -33,22 +37,24 @@ struct Buffers {
 }
 
 impl Buffers {
-    fn new() -> Buffers {
+    fn new(count: usize) -> Buffers {
         Buffers {
-            x: vec![-1; RECORDS],
-            y: vec![-1; RECORDS],
-            z: vec![-1; RECORDS],
-            time: vec![-1.0; RECORDS],
-            bits: vec![1; RECORDS],
-            red: vec![1; RECORDS],
-            green: vec![1; RECORDS],
-            blue: vec![1; RECORDS],
+            x: vec![-1; count],
+            y: vec![-1; count],
+            z: vec![-1; count],
+            time: vec![-1.0; count],
+            bits: vec![1; count],
+            red: vec![1; count],
+            green: vec![1; count],
+            blue: vec![1; count],
         }
     }
 }
 
 /// A file of the records, lent, and the same records as the Rust has them for its columns.
 struct Work {
+    count: usize,
+    record: usize,
     file: Vec<u8>,
     data: PointData,
     copy: Vec<u8>,
@@ -56,20 +62,24 @@ struct Work {
 }
 
 impl Work {
-    fn new() -> Work {
-        let format = Format::new(CODE).expect("a format from 0 to 10");
+    /// So many records, each with so many extra bytes.
+    fn new(count: usize, extra_bytes: u16) -> Work {
+        let mut format = Format::new(CODE).expect("a format from 0 to 10");
+        format.extra_bytes = extra_bytes;
         let word = format::word(format);
         let record = records::record_len(word);
-        let file = file(CODE, word, record, RECORDS);
-        let points = file[POINTS_AT..][..RECORDS * record].to_vec();
+        let file = file(CODE, word, record, count);
+        let points = file[POINTS_AT..][..count * record].to_vec();
         Work {
+            count,
+            record,
             file,
             copy: vec![1; points.len()],
             data: PointDataBuilder::new()
                 .with_format(format)
                 .build_from_bytes(points)
                 .expect("records"),
-            to: Buffers::new(),
+            to: Buffers::new(count),
         }
     }
 
@@ -77,6 +87,51 @@ impl Work {
         let points = &self.file[POINTS_AT..][..self.copy.len()];
         self.copy.copy_from_slice(black_box(points));
         black_box(&mut self.copy);
+    }
+
+    /// X, Y and Z by the port's one pass.
+    fn one_pass(&mut self) {
+        let (count, to) = (self.count as u64, &mut self.to);
+        let mut row = [u64::MAX; 3];
+        let buffers = (&mut to.x[..], &mut to.y[..], &mut to.z[..]);
+        capi::las_columns_xyz(black_box(&self.file), MANY, (1, count), buffers, &mut row);
+        assert_eq!(row, [0, count, 0]);
+        black_box(to);
+    }
+
+    /// X, Y and Z by a loop that checks nothing, not even the file.
+    fn by_hand(&mut self) {
+        let points = &self.file[POINTS_AT..][..self.copy.len()];
+        let to = &mut self.to;
+        by_hand::xyz(
+            black_box(points),
+            self.record,
+            (&mut to.x, &mut to.y, &mut to.z),
+        );
+        black_box(to);
+    }
+
+    /// All of these leave the same in the buffers, and not what was there.
+    fn check(&mut self, passes: &[fn(&mut Work)]) {
+        let before = Buffers::new(self.count);
+        let mut made = passes.iter().map(|pass| {
+            self.to = Buffers::new(self.count);
+            pass(self);
+            std::mem::replace(&mut self.to, Buffers::new(self.count))
+        });
+        let first = made.next().expect("a pass");
+        assert!(first != before && made.all(|other| other == first));
+    }
+
+    /// What each took, in turn, round by round.
+    fn times<const N: usize>(&mut self, passes: [fn(&mut Work); N]) -> [Times; N] {
+        let mut times = passes.map(|_| Times(Vec::new()));
+        for _ in 0..rounds(self.count) {
+            for (pass, times) in passes.iter().zip(&mut times) {
+                times.0.push(timed(self.count, || pass(self)));
+            }
+        }
+        times
     }
 }
 
@@ -88,42 +143,49 @@ struct Line {
     walk: fn(&mut Work),
 }
 
+/// The three that are asked for together.
+const XYZ: Line = Line {
+    name: "X, Y and Z",
+    rust: |work| LINES[..3].iter().for_each(|line| (line.rust)(work)),
+    port: |work| LINES[..3].iter().for_each(|line| (line.port)(work)),
+    walk: |work| {
+        walk(&work.file, work.count, |i, n| {
+            work.to.x[i] = n[0] as i32;
+            work.to.y[i] = n[1] as i32;
+            work.to.z[i] = n[2] as i32;
+        })
+    },
+};
+
 const LINES: [Line; 8] = [
     Line {
         name: "X",
         rust: |work| put(work.data.x_raw(), &mut work.to.x),
         port: |work| port(capi::las_column_x, &work.file, &mut work.to.x),
-        walk: |work| walk(&work.file, |i, n| work.to.x[i] = n[0] as i32),
+        walk: |work| walk(&work.file, work.count, |i, n| work.to.x[i] = n[0] as i32),
     },
     Line {
         name: "Y",
         rust: |work| put(work.data.y_raw(), &mut work.to.y),
         port: |work| port(capi::las_column_y, &work.file, &mut work.to.y),
-        walk: |work| walk(&work.file, |i, n| work.to.y[i] = n[1] as i32),
+        walk: |work| walk(&work.file, work.count, |i, n| work.to.y[i] = n[1] as i32),
     },
     Line {
         name: "Z",
         rust: |work| put(work.data.z_raw(), &mut work.to.z),
         port: |work| port(capi::las_column_z, &work.file, &mut work.to.z),
-        walk: |work| walk(&work.file, |i, n| work.to.z[i] = n[2] as i32),
+        walk: |work| walk(&work.file, work.count, |i, n| work.to.z[i] = n[2] as i32),
     },
-    Line {
-        name: "X, Y and Z",
-        rust: |work| LINES[..3].iter().for_each(|line| (line.rust)(work)),
-        port: |work| LINES[..3].iter().for_each(|line| (line.port)(work)),
-        walk: |work| {
-            walk(&work.file, |i, n| {
-                work.to.x[i] = n[0] as i32;
-                work.to.y[i] = n[1] as i32;
-                work.to.z[i] = n[2] as i32;
-            })
-        },
-    },
+    XYZ,
     Line {
         name: "time",
         rust: |work| put(work.data.gps_time().expect("times"), &mut work.to.time),
         port: |work| port(capi::las_column_time, &work.file, &mut work.to.time),
-        walk: |work| walk(&work.file, |i, n| work.to.time[i] = f64::from_bits(n[9])),
+        walk: |work| {
+            walk(&work.file, work.count, |i, n| {
+                work.to.time[i] = f64::from_bits(n[9])
+            })
+        },
     },
     Line {
         name: "time by its bits",
@@ -132,7 +194,7 @@ const LINES: [Line; 8] = [
             put(times.map(f64::to_bits), &mut work.to.bits)
         },
         port: |work| port(capi::las_column_time_bits, &work.file, &mut work.to.bits),
-        walk: |work| walk(&work.file, |i, n| work.to.bits[i] = n[9]),
+        walk: |work| walk(&work.file, work.count, |i, n| work.to.bits[i] = n[9]),
     },
     Line {
         name: "red",
@@ -141,7 +203,7 @@ const LINES: [Line; 8] = [
             put(colors.map(|(red, _, _)| red), &mut work.to.red)
         },
         port: |work| port(capi::las_column_red, &work.file, &mut work.to.red),
-        walk: |work| walk(&work.file, |i, n| work.to.red[i] = n[11] as u16),
+        walk: |work| walk(&work.file, work.count, |i, n| work.to.red[i] = n[11] as u16),
     },
     Line {
         name: "red, green and blue",
@@ -160,7 +222,7 @@ const LINES: [Line; 8] = [
             port(capi::las_column_blue, &work.file, &mut work.to.blue);
         },
         walk: |work| {
-            walk(&work.file, |i, n| {
+            walk(&work.file, work.count, |i, n| {
                 work.to.red[i] = n[11] as u16;
                 work.to.green[i] = n[12] as u16;
                 work.to.blue[i] = n[13] as u16;
@@ -180,18 +242,18 @@ fn put<N>(column: impl Iterator<Item = N>, to: &mut [N]) {
 
 /// A column of the port.
 fn port<N>(fill: fn(&[u8], u64, u64, u64, &mut [N], &mut Row), file: &[u8], to: &mut [N]) {
-    let mut row = [u64::MAX; 3];
-    fill(black_box(file), MANY, 1, RECORDS as u64, to, &mut row);
-    assert_eq!(row, [0, RECORDS as u64, 0]);
+    let (count, mut row) = (to.len() as u64, [u64::MAX; 3]);
+    fill(black_box(file), MANY, 1, count, to, &mut row);
+    assert_eq!(row, [0, count, 0]);
     black_box(to);
 }
 
-/// The port's walker: each point in turn, from 0, of which the numbers are taken.
+/// The port's walker: each of so many points in turn, from 0, of which the numbers are taken.
 #[inline]
-fn walk(file: &[u8], mut see: impl FnMut(usize, &PointNumbers)) {
+fn walk(file: &[u8], count: usize, mut see: impl FnMut(usize, &PointNumbers)) {
     let (mut place, mut row, mut numbers) = ([0; 7], [0; 3], [0; 24]);
     capi::las_file_walker(black_box(file), MANY, &mut place);
-    for i in 0..RECORDS {
+    for i in 0..count {
         capi::las_file_next(file, &mut place, &mut row, &mut numbers);
         assert_eq!(row[0], 0);
         see(i, &numbers);
@@ -199,26 +261,10 @@ fn walk(file: &[u8], mut see: impl FnMut(usize, &PointNumbers)) {
 }
 
 impl Line {
-    /// All three read the same.
-    fn check(&self, work: &mut Work) {
-        let made = [self.rust, self.port, self.walk].map(|pass| {
-            work.to = Buffers::new();
-            pass(work);
-            std::mem::replace(&mut work.to, Buffers::new())
-        });
-        assert!(made[0] != Buffers::new() && made[0] == made[1] && made[1] == made[2]);
-    }
-
     /// Prints medians and their ratios, and the ratio of the shortest times.
     fn time(&self, work: &mut Work) {
-        self.check(work);
-        let passes = [self.port, self.rust, self.walk, Work::memcpy];
-        let mut times = passes.map(|_| Times(Vec::new()));
-        for _ in 0..rounds(RECORDS) {
-            for (pass, times) in passes.iter().zip(&mut times) {
-                times.0.push(timed(RECORDS, || pass(work)));
-            }
-        }
+        work.check(&[self.rust, self.port, self.walk]);
+        let mut times = work.times([self.port, self.rust, self.walk, Work::memcpy]);
         let [port, rust, walk, memcpy] = times.each_mut().map(Times::median);
         let [least_port, least_rust, ..] = times.each_ref().map(Times::shortest);
         println!(
@@ -232,14 +278,71 @@ impl Line {
     }
 }
 
+/// The ways to X, Y and Z. The first two are those that the others are divided by.
+const WAYS: [(&str, fn(&mut Work)); 5] = [
+    ("the Rust's `x_raw`, `y_raw`, `z_raw`", XYZ.rust),
+    ("one pass by hand, unchecked", Work::by_hand),
+    ("three columns", XYZ.port),
+    ("one pass", Work::one_pass),
+    ("memcpy of the records", Work::memcpy),
+];
+
+/// Prints what each way takes, and that over what the Rust and the loop by hand take.
+fn time_ways(work: &mut Work) {
+    let passes = WAYS.map(|(_, pass)| pass);
+    work.check(&passes[..4]);
+    let mut times = work.times(passes);
+    let medians = times.each_mut().map(Times::median);
+    let shortest = times.each_ref().map(Times::shortest);
+    for (i, (name, _)) in WAYS.iter().enumerate() {
+        print!("| {name} |");
+        for times in [medians, shortest] {
+            let (time, [rust, by_hand, ..]) = (times[i], times);
+            print!(" {time:.2} | {:.2} | {:.2} |", time / rust, time / by_hand);
+        }
+        println!();
+    }
+}
+
+/// Prints the medians of one pass and of three columns at each size, in brackets the Rust's.
+fn time_growth(name: &str, extra_bytes: u16) {
+    let mut lines = ["one pass", "three columns"].map(|way| format!("| {way}{name} |"));
+    for count in GROWING {
+        let mut work = Work::new(count, extra_bytes);
+        let passes = [XYZ.rust, Work::one_pass, XYZ.port];
+        work.check(&passes);
+        let [rust, ports @ ..] = work.times(passes).each_mut().map(Times::median);
+        for (line, port) in lines.iter_mut().zip(ports) {
+            line.push_str(&format!(" {port:.2} ({rust:.2}) |"));
+        }
+    }
+    lines.iter().for_each(|line| println!("{line}"));
+}
+
 fn main() {
     println!("Columns of {RECORDS} records of format {CODE}: nanoseconds a record, medians.\n");
     println!(
         "| | port | Rust | port/Rust | walking | port/walking | memcpy | port/memcpy | shortest: port/Rust |"
     );
     println!("|---|---|---|---|---|---|---|---|---|");
-    let mut work = Work::new();
+    let mut work = Work::new(RECORDS, 0);
     for line in LINES {
         line.time(&mut work);
     }
+
+    println!("\nX, Y and Z of the same records: nanoseconds a record.\n");
+    println!(
+        "| | median | over the Rust | over by hand | shortest | over the Rust | over by hand |"
+    );
+    println!("|---|---|---|---|---|---|---|");
+    time_ways(&mut work);
+
+    println!("\nX, Y and Z of more and more records: medians, in brackets the Rust.\n");
+    println!(
+        "| points | {} |",
+        GROWING.map(|n| n.to_string()).join(" | ")
+    );
+    println!("|---|{}", "---|".repeat(GROWING.len()));
+    time_growth("", 0);
+    time_growth(", two extra bytes", 2);
 }
