@@ -1,5 +1,6 @@
 //! One field of many points: by the port, and by document 02's rules as `column_model` has them; and what was
-//! filled, held against the walker, against the Rust's columns and against the Rust's points.
+//! filled, held against the walker, against the Rust's columns and against the Rust's points. Of each stretch of
+//! X, Y or Z all three are asked for besides in one pass.
 
 use crate::{
     answer::Answer,
@@ -8,7 +9,7 @@ use crate::{
     column_model::{
         self, COLUMNS,
         Column::{self, *},
-        Stretch, compared,
+        Pass, Stretch, compared,
     },
     column_wrong::{ERRORS, StandIn},
     file_model::{Found, POINT_BYTES, standard_size},
@@ -29,9 +30,11 @@ pub enum Dst<'a> {
     Colour(&'a mut [u16]),
 }
 
-/// The nine columns. The port has them, and so have the stand-ins that test the comparison itself.
+/// The nine columns, and three of them in one pass. The port has them, and so have the stand-ins that test the
+/// comparison itself.
 pub trait Library: Sync {
     fn column(&self, file: &[u8], stretch: Stretch, dst: Dst, row: &mut Row);
+    fn xyz(&self, file: &[u8], pass: Pass, to: [&mut [i32]; 3], row: &mut Row);
 }
 
 struct Port;
@@ -68,6 +71,11 @@ impl Library for Port {
                 call(file, allowance, first, count, dst, row)
             }
         }
+    }
+
+    fn xyz(&self, file: &[u8], pass: Pass, [xs, ys, zs]: [&mut [i32]; 3], row: &mut Row) {
+        let stretch = (pass.first, pass.count);
+        capi::las_columns_xyz(file, pass.allowance, stretch, (xs, ys, zs), row)
     }
 }
 
@@ -131,6 +139,74 @@ fn as_filled(column: Column, entries: &[u64], held: &[u64]) -> bool {
     held.starts_with(entries) && held[entries.len()..].iter().all(|&bits| bits == before)
 }
 
+/// The pass over a stretch of X, Y or Z, if it is one: the column's own room is the shortest of three that differ.
+fn pass_of(stretch: Stretch) -> Option<Pass> {
+    let Stretch {
+        column,
+        allowance,
+        first,
+        count,
+        room,
+    } = stretch;
+    let rooms = match column {
+        X => [room, room + 1, room + 2],
+        Y => [room + 2, room, room + 1],
+        Z => [room + 1, room + 2, room],
+        _ => return None,
+    };
+    Some(Pass {
+        allowance,
+        first,
+        count,
+        rooms,
+    })
+}
+
+/// What came of a pass: both answers, and of X, Y and Z the entries as they should be and as the library leaves
+/// them, the spare ones too.
+struct Passed {
+    rules: Answer,
+    port: Answer,
+    entries: [Vec<u64>; 3],
+    held: [Vec<u64>; 3],
+}
+
+impl Passed {
+    /// Asks the rules and a library for X, Y and Z in one pass.
+    fn new(library: &impl Library, found: &mut Found, file: &[u8], pass: Pass) -> Passed {
+        let mut entries = [const { Vec::new() }; 3];
+        let rules = column_model::xyz(found, file, pass, &mut entries);
+        let mut lent = pass.rooms.map(|room| vec![before(X) as i32; room + SPARE]);
+        let [x, y, z] = pass.rooms;
+        let [xs, ys, zs] = &mut lent;
+        let to = [&mut xs[..x], &mut ys[..y], &mut zs[..z]];
+        let port = capi::row(|row| library.xyz(file, pass, to, row));
+        let bits = |n: i32| u64::from(n as u32);
+        let held = lent.map(|entries| entries.into_iter().map(bits).collect());
+        Passed {
+            rules,
+            port,
+            entries,
+            held,
+        }
+    }
+
+    /// Whether the answer is the rules', and all three buffers are as they should be.
+    fn agrees(&self) -> bool {
+        let mut buffers = self.entries.iter().zip(&self.held);
+        self.rules == self.port && buffers.all(|(entries, held)| as_filled(X, entries, held))
+    }
+
+    /// Whether each column by itself answers the same and leaves the same.
+    fn as_alone(&self, library: &impl Library, file: &[u8], pass: Pass) -> bool {
+        let mut alone = Vec::new();
+        [X, Y, Z].into_iter().zip(&self.held).all(|(column, held)| {
+            let answer = ask(library, file, pass.stretch(column), &mut alone);
+            answer == self.port && alone == *held
+        })
+    }
+}
+
 /// How many files are made.
 #[derive(Clone, Copy)]
 struct Lot {
@@ -173,7 +249,7 @@ const NUMBERS: [usize; 19] = [
 const OFTEN: u64 = 2_000;
 
 /// What is counted.
-const COUNTED: [&str; 8] = [
+const COUNTED: [&str; 13] = [
     "files with columns asked for",
     "stretches",
     "stretches filled",
@@ -182,6 +258,11 @@ const COUNTED: [&str; 8] = [
     "entries that are NaNs",
     "entries that are near infrared 0",
     "fields lacking, of files without points",
+    "passes",
+    "passes filled",
+    "passes refused for the room of X alone",
+    "passes refused for the room of Y alone",
+    "passes refused for the room of Z alone",
 ];
 const FILES: usize = 0;
 const STRETCHES: usize = 1;
@@ -191,12 +272,15 @@ const ENTRIES: usize = 4;
 const NANS: usize = 5;
 const ZEROS: usize = 6;
 const LACKING: usize = 7;
+const PASSES: usize = 8;
+const PASSES_FILLED: usize = 9;
+const ONE_SHORT: usize = 10;
 
 /// What comparing the calls came to.
-type Outcome = report::Outcome<12, 8>;
+type Outcome = report::Outcome<14, 13>;
 
-/// The calls, each at the place of its column, and the places of the other reports.
-const CALLS: [&str; 12] = [
+/// The calls, each at the place of its column, the one pass, and the places of the other reports.
+const CALLS: [&str; 14] = [
     "las_column_x",
     "las_column_y",
     "las_column_z",
@@ -206,13 +290,17 @@ const CALLS: [&str; 12] = [
     "las_column_green",
     "las_column_blue",
     "las_column_nir",
+    "las_columns_xyz",
     "columns as las_file_next tells",
     "columns as PointData has them",
     "columns as the Rust reads points",
+    "las_columns_xyz as each by itself",
 ];
-const WALKED: usize = 9;
-const DATA: usize = 10;
-const POINTS: usize = 11;
+const XYZ: usize = 9;
+const WALKED: usize = 10;
+const DATA: usize = 11;
+const POINTS: usize = 12;
+const ALONE: usize = 13;
 
 /// What others tell of the points of an accepted file.
 struct Others {
@@ -362,6 +450,43 @@ impl<'a, L: Library> Comparison<'a, L> {
         self.count(stretch, rules);
         if rules == port {
             self.others(stretch, rules, shown);
+        }
+        if !kept {
+            self.shown.clone_from(&self.file);
+        }
+        if let Some(pass) = pass_of(stretch) {
+            self.pass(pass, shown);
+        }
+    }
+
+    /// Compares X, Y and Z in one pass: the row, every entry of all three, what is past them, and the file, which
+    /// stays; and where it is filled each of the three by itself.
+    fn pass(&mut self, pass: Pass, shown: &dyn Fn() -> String) {
+        let passed = Passed::new(self.port, &mut self.found, &self.shown, pass);
+        let kept = self.shown == self.file;
+        self.outcome.reports[XYZ].check(passed.agrees() && kept, || {
+            let Passed { rules, port, .. } = passed;
+            let size = self.file.len();
+            format!(
+                "{}, {size} bytes, {pass:?}: {rules}, port {port}, file kept {kept}",
+                shown()
+            )
+        });
+        if passed.rules.number == 0 {
+            let same = passed.as_alone(self.port, &self.file, pass);
+            self.outcome.reports[ALONE].check(same, || format!("{}, {pass:?}", shown()));
+        }
+        let counts = &mut self.outcome.counted.counts;
+        counts[PASSES] += 1;
+        counts[PASSES_FILLED] += u64::from(passed.rules.number == 0);
+        if passed.rules.number == 22 {
+            let short = pass.rooms.map(|room| (room as u64) < pass.count);
+            match short {
+                [true, false, false] => counts[ONE_SHORT] += 1,
+                [false, true, false] => counts[ONE_SHORT + 1] += 1,
+                [false, false, true] => counts[ONE_SHORT + 2] += 1,
+                _ => {}
+            }
         }
         if !kept {
             self.shown.clone_from(&self.file);
@@ -770,6 +895,13 @@ fn beyond<L: Library>(library: &L) -> Report {
             report.check(same, || {
                 format!("{numbers:?}, {stretch:?}: {rules}, port {port}, {entries:x?}, {held:x?}")
             });
+            if let Some(pass) = pass_of(stretch) {
+                let passed = Passed::new(library, &mut found, file, pass);
+                report.check(passed.agrees(), || {
+                    let Passed { rules, port, .. } = passed;
+                    format!("{numbers:?}, {pass:?}: {rules}, port {port}")
+                });
+            }
         };
         let few = around
             .into_iter()
@@ -808,7 +940,7 @@ fn beyond<L: Library>(library: &L) -> Report {
 }
 
 /// A file of more than 4 GB, whose records are as long as their field allows: every point's every column, in
-/// one stretch each, and what the walker gives of each point.
+/// one stretch each, what the walker gives of each point, and X, Y and Z in one pass.
 fn gigabytes<L: Library>(library: &L) -> Report {
     const LENGTH: u64 = 65_535;
     const POINTS: u64 = TWO_32 / LENGTH + 40;
@@ -843,6 +975,11 @@ fn gigabytes<L: Library>(library: &L) -> Report {
             && as_filled(column, &entries, &held)
             && walked.iter().zip(&held).all(as_walked);
         report.check(same, || format!("{column:?}: {rules}, port {port}"));
+        if let Some(pass) = pass_of(stretch) {
+            let passed = Passed::new(library, &mut found, &file, pass);
+            let same = passed.agrees() && passed.as_alone(library, &file, pass);
+            report.check(same, || format!("{pass:?}: {rules}, port {}", passed.port));
+        }
     }
     report
 }
@@ -1031,6 +1168,67 @@ fn compare_described(library: &impl Library) -> Report {
     report
 }
 
+/// Passes with their row and, of those that are filled, the entries of X, Y and Z, worked by hand: over a file of
+/// two records of 20 bytes, 1 to 20 and 21 to 40.
+type DescribedPass = ((u64, u64), [usize; 3], Row, [Vec<u64>; 3]);
+
+fn passes_by_hand() -> Vec<DescribedPass> {
+    let none = || [const { Vec::new() }; 3];
+    let both = [
+        vec![0x0403_0201, 0x1817_1615],
+        vec![0x0807_0605, 0x1c1b_1a19],
+        vec![0x0c0b_0a09, 0x201f_1e1d],
+    ];
+    let second = both.clone().map(|entries| vec![entries[1]]);
+    vec![
+        ((1, 2), [2, 2, 2], [0, 2, 0], both.clone()),
+        ((1, 2), [2, 3, 4], [0, 2, 0], both),
+        ((2, 1), [5, 1, 3], [0, 1, 0], second),
+        ((3, 0), [0, 0, 0], [0, 0, 0], none()),
+        // "no room", where any of the three is short, and its value is the entries wanted
+        ((1, 2), [1, 2, 2], [22, 2, 0], none()),
+        ((1, 2), [2, 1, 2], [22, 2, 0], none()),
+        ((1, 2), [2, 2, 1], [22, 2, 0], none()),
+        ((2, 1), [0, 9, 9], [22, 1, 0], none()),
+        ((2, 1), [9, 0, 9], [22, 1, 0], none()),
+        ((2, 1), [9, 9, 0], [22, 1, 0], none()),
+        // "stretch not within the points (27); no room"
+        ((2, 2), [2, 2, 2], [27, 2, 0], none()),
+        ((0, 2), [0, 1, 2], [27, 2, 0], none()),
+        ((4, 0), [0, 0, 0], [27, 2, 0], none()),
+    ]
+}
+
+/// Both the rules and a library must answer what was worked by hand, fill these entries and leave the others.
+fn compare_described_passes(library: &impl Library) -> Report {
+    let mut report = Report::new("passes described");
+    let besides: Vec<_> = (0..40).map(|k| (227 + k, k as u8 + 1)).collect();
+    let file = plain(267, [2, 227, 227, 0, 20, 2], &besides);
+    for ((first, count), rooms, stated, filled) in passes_by_hand() {
+        let [number, value, record] = stated;
+        let stated = Answer {
+            number,
+            value,
+            record,
+        };
+        let pass = Pass {
+            allowance: 0,
+            first,
+            count,
+            rooms,
+        };
+        let passed = Passed::new(library, &mut Found::default(), &file, pass);
+        let same = passed.agrees() && passed.rules == stated && passed.entries == filled;
+        report.check(same, || {
+            let Passed {
+                rules, port, held, ..
+            } = passed;
+            format!("{pass:?}: {stated} {filled:x?}, rules {rules}, port {port} {held:x?}")
+        });
+    }
+    report
+}
+
 /// The comparison itself is tested: a stand-in that follows the rules agrees with them, and one with an error
 /// put in doesn't, whichever error it is.
 pub fn compare_stand_ins() -> Report {
@@ -1053,6 +1251,7 @@ pub fn compare_stand_ins() -> Report {
 /// Compares a library and prints what came of it: the calls, and how often each number was answered.
 pub fn compare_library(tally: &mut Tally, library: &impl Library) {
     tally.add(compare_described(library));
+    tally.add(compare_described_passes(library));
     let outcome = whole(library, FULL)
         .and(long(library, FULL))
         .and(many(library, FULL))

@@ -1,5 +1,5 @@
 //! Document 02's No. 6, one field of many points, written from its text and document 01's alone: which
-//! stretches of which fields are refused, and which numbers the others hold.
+//! stretches of which fields are refused, and which numbers the others hold; and No. 7's X, Y and Z in one pass.
 //!
 //! It shares nothing with the port but the text. The file check and the count of points are those of
 //! `file_model`; where a record stands, and where a field stands in it, is added up here, in 128 bits, in
@@ -32,6 +32,28 @@ pub struct Stretch {
     pub first: u64,
     pub count: u64,
     pub room: usize,
+}
+
+/// What is asked for in one pass: X, Y and Z of so many points from number `first` on, into so many entries each.
+#[derive(Clone, Copy, Debug)]
+pub struct Pass {
+    pub allowance: u64,
+    pub first: u64,
+    pub count: u64,
+    pub rooms: [usize; 3],
+}
+
+impl Pass {
+    /// The stretch of one of the three by itself.
+    pub fn stretch(self, column: Column) -> Stretch {
+        Stretch {
+            column,
+            allowance: self.allowance,
+            first: self.first,
+            count: self.count,
+            room: self.rooms[column as usize],
+        }
+    }
 }
 
 /// Whether formats 0 to 10 have time, colour and near infrared, as the standard says. With the waveform of
@@ -112,4 +134,22 @@ pub fn column(found: &mut Found, file: &[u8], stretch: Stretch, entries: &mut Ve
         entries.push(compared(stretch.column, bits));
     }
     Answer::result(stretch.count)
+}
+
+/// What is answered to a pass, and the entries of X, Y and Z that are filled: "The answers stay those of No. 6." It
+/// is refused where any of the three has no room, which is where the shortest has none, and then fills none of them.
+pub fn xyz(found: &mut Found, file: &[u8], pass: Pass, entries: &mut [Vec<u64>; 3]) -> Answer {
+    entries.iter_mut().for_each(Vec::clear);
+    let shortest = pass.rooms.into_iter().min().unwrap_or_default();
+    for (one, entries) in [X, Y, Z].into_iter().zip(entries) {
+        let stretch = Stretch {
+            room: shortest,
+            ..pass.stretch(one)
+        };
+        let answer = column(found, file, stretch, entries);
+        if answer.number != 0 {
+            return answer;
+        }
+    }
+    Answer::result(pass.count)
 }

@@ -9,7 +9,7 @@ use crate::{
     column::{Dst, Library},
     column_model::{
         Column::{self, *},
-        Stretch,
+        Pass, Stretch,
     },
     file::Library as _,
     file_wrong,
@@ -135,6 +135,11 @@ errors! {
     RefusalClears,
     NoRoomFillsWhatFits,
     IndexFillsWhatIsThere,
+    PassYWhereTheZStands,
+    PassThirdRoomNotLookedAt,
+    PassWrittenBeforeNoRoomIsKnown,
+    PassShortestRoomLeftUnfilled,
+    PassXOfTheNextPoint,
 }
 
 pub struct StandIn {
@@ -596,6 +601,53 @@ impl StandIn {
     }
 }
 
+/// X, Y and Z in one pass.
+impl StandIn {
+    /// What is asked for of one of the three.
+    fn part(&self, pass: Pass, column: Column) -> Stretch {
+        let stretch = pass.stretch(column);
+        match column {
+            Z if self.has(PassThirdRoomNotLookedAt) => Stretch {
+                room: usize::MAX,
+                ..stretch
+            },
+            _ => stretch,
+        }
+    }
+
+    /// The error with which one of the three is filled, if with any: some are those of the column by itself.
+    fn error_of(&self, column: Column) -> Option<Error> {
+        match (self.error, column) {
+            (Some(PassYWhereTheZStands), Z) => Some(YAndZExchanged),
+            (Some(PassXOfTheNextPoint), X) => Some(NextPoint),
+            (error, _) => error,
+        }
+    }
+
+    /// Judges all three, then fills one after another.
+    fn pass(&self, file: &[u8], pass: Pass, to: [&mut [i32]; 3], row: &mut Row) {
+        let parts = [X, Y, Z].map(|column| self.part(pass, column));
+        let judged = parts.map(|part| self.judge(file, part).err());
+        if let [Some(refusal), _, _] | [_, Some(refusal), _] | [_, _, Some(refusal)] = judged
+            && !self.has(PassWrittenBeforeNoRoomIsKnown)
+        {
+            *row = refusal;
+            return;
+        }
+        let shortest = pass.rooms.into_iter().min();
+        for (part, dst) in parts.into_iter().zip(to) {
+            if self.has(PassShortestRoomLeftUnfilled) && Some(dst.len()) == shortest {
+                continue;
+            }
+            let error = self.error_of(part.column);
+            StandIn { error }.fill(file, part, dst, |bits| bits as i32, row);
+            if row[0] != 0 {
+                return;
+            }
+        }
+    }
+}
+
 /// The bytes of a field.
 fn width(column: Column) -> usize {
     match column {
@@ -613,5 +665,9 @@ impl Library for StandIn {
             Dst::TimeBits(dst) => self.fill(file, stretch, dst, |bits| bits, row),
             Dst::Colour(dst) => self.fill(file, stretch, dst, |bits| bits as u16, row),
         }
+    }
+
+    fn xyz(&self, file: &[u8], pass: Pass, to: [&mut [i32]; 3], row: &mut Row) {
+        self.pass(file, pass, to, row);
     }
 }
