@@ -9,6 +9,23 @@ use inscjarol::{
 };
 use std::{fmt::Debug, fs};
 
+/// The example, whose main is not called here.
+mod loader {
+    #![allow(dead_code)]
+    include!("../examples/loader.rs");
+
+    /// X, Y and Z as the example loads them.
+    pub fn loaded(bytes: &[u8]) -> [Vec<i32>; 3] {
+        let Cloud { xs, ys, zs } = load(bytes).unwrap();
+        [xs, ys, zs]
+    }
+
+    /// The file that the example makes.
+    pub fn file(points: u64) -> Vec<u8> {
+        made(points).unwrap()
+    }
+}
+
 /// What a buffer holds before it is lent.
 trait Held: Copy + Debug + PartialEq {
     const HELD: Self;
@@ -258,4 +275,19 @@ fn every_bit_of_a_time_is_kept() {
     let file = File::check(&bytes).unwrap();
     assert_eq!(file.column_to_vec(GpsTimeBits, 2..=2), Ok(vec![signalling]));
     assert!(file.column_to_vec(GpsTime, 2..=2).unwrap()[0].is_nan());
+}
+
+#[test]
+fn the_loader_has_the_points_of_its_files() {
+    // No sweep, one, and one of a single point behind another.
+    let mut files = [0, 1, 100_001].map(loader::file).to_vec();
+    files.push(fs::read(sample()).unwrap());
+    for (bytes, count) in files.iter().zip([0, 1, 100_001, 2_998]) {
+        let walked = || File::check(bytes).unwrap().points();
+        assert_eq!(walked().len(), count);
+        let [xs, ys, zs] = loader::loaded(bytes);
+        assert!(walked().map(|point| point.x).eq(xs));
+        assert!(walked().map(|point| point.y).eq(ys));
+        assert!(walked().map(|point| point.z).eq(zs));
+    }
 }
