@@ -97,7 +97,12 @@ enum {
     LAS_REFUSED_EVLRS_OR_WAVEFORMS = 33,
     LAS_REFUSED_COUNTS_TOO_LARGE_FOR_OLD = 34,
     LAS_REFUSED_WAVEFORM_START = 35,
-    LAS_REFUSED_FIELD_LACKING = 36
+    LAS_REFUSED_FIELD_LACKING = 36,
+    LAS_REFUSED_NO_DESCRIPTORS = 37,
+    LAS_REFUSED_DESCRIPTOR_BYTES = 38,
+    LAS_REFUSED_DATA_TYPE = 39,
+    LAS_REFUSED_ATTRIBUTE_SIZES = 40,
+    LAS_REFUSED_NAME_NOT_FOUND = 41
 };
 
 /* Some of the caller's bytes, as two numbers: where they start in the slice that was lent, and how many there are. Where there

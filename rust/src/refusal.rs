@@ -80,13 +80,23 @@ pub enum Kind {
     WaveformStart,
     /// 36: the points' format does not have the field.
     FieldLacking,
+    /// 37: no VLR describes the extra bytes.
+    NoDescriptors,
+    /// 38: the data of the VLR that describes the extra bytes is not a multiple of 192 bytes.
+    DescriptorBytes,
+    /// 39: a descriptor of extra bytes has a data type above 10.
+    DataType,
+    /// 40: the descriptors speak of more extra bytes than a record has.
+    AttributeSizes,
+    /// 41: no descriptor of extra bytes has the name.
+    NameNotFound,
     /// A number that this version of the crate does not know.
     Unknown(u64),
 }
 
 impl Kind {
     /// Every kind that has a number, in the table's order.
-    const ALL: [Kind; 36] = [
+    const ALL: [Kind; 41] = [
         Kind::Short,
         Kind::Signature,
         Kind::Version,
@@ -123,6 +133,11 @@ impl Kind {
         Kind::CountsTooLargeForOld,
         Kind::WaveformStart,
         Kind::FieldLacking,
+        Kind::NoDescriptors,
+        Kind::DescriptorBytes,
+        Kind::DataType,
+        Kind::AttributeSizes,
+        Kind::NameNotFound,
     ];
 
     /// The kind with this number.
@@ -173,6 +188,11 @@ impl Kind {
             Kind::CountsTooLargeForOld => 34,
             Kind::WaveformStart => 35,
             Kind::FieldLacking => 36,
+            Kind::NoDescriptors => 37,
+            Kind::DescriptorBytes => 38,
+            Kind::DataType => 39,
+            Kind::AttributeSizes => 40,
+            Kind::NameNotFound => 41,
             Kind::Unknown(number) => number,
         }
     }
@@ -216,6 +236,11 @@ impl Kind {
             Kind::CountsTooLargeForOld => "counts too large for old",
             Kind::WaveformStart => "waveform start",
             Kind::FieldLacking => "field lacking",
+            Kind::NoDescriptors => "no descriptors",
+            Kind::DescriptorBytes => "descriptor bytes",
+            Kind::DataType => "data type",
+            Kind::AttributeSizes => "attribute sizes",
+            Kind::NameNotFound => "name not found",
             Kind::Unknown(_) => "unknown",
         }
     }
@@ -263,7 +288,7 @@ impl Refusal {
         self.kind
     }
 
-    /// The number in the library's table, 1 to 36.
+    /// The number in the library's table, 1 to 41.
     pub fn number(&self) -> u64 {
         self.kind.number()
     }
@@ -510,6 +535,24 @@ impl fmt::Display for Refusal {
                 "the point format (header byte 104) does not have this field: 1 and 3 to 10 have the time, 2, 3, 5, 7, 8 and 10 \
                  colours, 8 and 10 near infrared",
             ),
+            Kind::NoDescriptors => f.write_str(
+                "no VLR describes the extra bytes: none has the user id \"LASF_Spec\" and the record id 4",
+            ),
+            Kind::DescriptorBytes => f.write_str(
+                "the VLR that describes the extra bytes (\"LASF_Spec\", 4) is damaged: its data is not a multiple of 192 bytes, which \
+                 each of its descriptors has",
+            ),
+            Kind::DataType => f.write_str(
+                "a descriptor of extra bytes has a data type above 10 (its byte 2): 0 to 10 are known; files of before LAS 1.4 R15 may \
+                 have arrays, types 11 to 30, which the standard no longer has",
+            ),
+            Kind::AttributeSizes => f.write_str(
+                "the descriptors of the extra bytes speak of more bytes than a point record has behind its format (record length, header \
+                 byte 105)",
+            ),
+            Kind::NameNotFound => f.write_str(
+                "no descriptor of extra bytes has this name, which is compared byte by byte, capitals and blanks too",
+            ),
             Kind::Unknown(number) => write!(
                 f,
                 "refusal {number} with value {value}, which this version of the crate does not know"
@@ -533,7 +576,8 @@ mod tests {
         assert_eq!(Kind::from_number(34), Kind::CountsTooLargeForOld);
         assert_eq!(Kind::from_number(35), Kind::WaveformStart);
         assert_eq!(Kind::from_number(36), Kind::FieldLacking);
-        assert_eq!(Kind::from_number(37), Kind::Unknown(37));
+        assert_eq!(Kind::from_number(41), Kind::NameNotFound);
+        assert_eq!(Kind::from_number(42), Kind::Unknown(42));
         assert_eq!(Kind::from_number(u64::MAX), Kind::Unknown(u64::MAX));
     }
 
@@ -541,7 +585,7 @@ mod tests {
     fn every_kind_has_a_name_and_a_sentence_of_its_own() {
         let mut names = Vec::new();
         let mut sentences = Vec::new();
-        for number in 1..=36 {
+        for number in 1..=41 {
             let refusal = Refusal::from_row(number, 7, 3);
             names.push(refusal.name());
             sentences.push(refusal.to_string());
@@ -550,7 +594,7 @@ mod tests {
         names.dedup();
         sentences.sort_unstable();
         sentences.dedup();
-        assert_eq!((names.len(), sentences.len()), (36, 36));
+        assert_eq!((names.len(), sentences.len()), (41, 41));
         assert!(sentences.iter().all(|words| !words.ends_with('.')));
     }
 

@@ -3,7 +3,7 @@ use Prim.Native.Nat.{ℕ, _^_}
 use mathlib.Core.Bool.{cond}
 use lib.Dec.{ltb}
 use Rattle.refusal.specs.declared.Refusal.{Refusal}
-use Rattle.refusal.specs.declared.Refusal.the-variants.{Short, Signature, Version, HeaderSize, Format, Compressed, FormatForVersion, RecordLength, PointOffset, Allowance, VlrExtent, PointExtent, EvlrExtent, EvlrStart, ReturnNumber, NumberOfReturns, Class, Channel, Overlap, Nir, Angle, NoRoom, ExtraBytes, VlrDataLength, Attributes, NoPair, Index, NotVersion12, NoRecords, CountNeither, CountTooLarge, OtherVersionOrFormat, EvlrsOrWaveforms, CountsTooLargeForOld, WaveformStart, FieldLacking}
+use Rattle.refusal.specs.declared.Refusal.the-variants.{Short, Signature, Version, HeaderSize, Format, Compressed, FormatForVersion, RecordLength, PointOffset, Allowance, VlrExtent, PointExtent, EvlrExtent, EvlrStart, ReturnNumber, NumberOfReturns, Class, Channel, Overlap, Nir, Angle, NoRoom, ExtraBytes, VlrDataLength, Attributes, NoPair, Index, NotVersion12, NoRecords, CountNeither, CountTooLarge, OtherVersionOrFormat, EvlrsOrWaveforms, CountsTooLargeForOld, WaveformStart, FieldLacking, NoDescriptors, DescriptorBytes, DataType, AttributeSizes, NameNotFound}
 use Rattle.refusal.specs.declared.Row.{Row}
 
 -- the column "no."
@@ -48,6 +48,12 @@ numberOf CountsTooLargeForOld = 34
 numberOf WaveformStart = 35
 -- No. 6: "field lacking"
 numberOf FieldLacking = 36
+-- No. 8: "no such VLR; data not a multiple of 192; a type above 10; sizes adding up to more than the extra bytes; name not found"
+numberOf NoDescriptors = 37
+numberOf DescriptorBytes = 38
+numberOf DataType = 39
+numberOf AttributeSizes = 40
+numberOf NameNotFound = 41
 
 -- "bytes wanted in all, 0 if over 2^64−1", and so "bytes or entries wanted, 0 likewise"
 unfoldable pub wantedOf : ℕ → ℕ
@@ -91,6 +97,11 @@ valueOf EvlrsOrWaveforms = 0
 valueOf CountsTooLargeForOld = 0
 valueOf WaveformStart = 0
 valueOf FieldLacking = 0
+valueOf NoDescriptors = 0
+valueOf DescriptorBytes = 0
+valueOf DataType = 0
+valueOf AttributeSizes = 0
+valueOf NameNotFound = 0
 
 -- a refusal at a record; the record number is 0 where document 01 names no record
 unfoldable pub rowOf : Refusal → ℕ → Row

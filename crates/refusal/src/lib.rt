@@ -57,6 +57,16 @@ pub enum Refusal {
     WaveformStart,
     // No. 6, the columns: the points' format does not have the field.
     FieldLacking,
+    // No. 8, extra bytes by name: no VLR describes the extra bytes.
+    NoDescriptors,
+    // The data of that VLR is not a multiple of 192 bytes.
+    DescriptorBytes,
+    // A descriptor has a type above 10.
+    DataType,
+    // The descriptors speak of more extra bytes than a record has.
+    AttributeSizes,
+    // No descriptor has the name.
+    NameNotFound,
 }
 
 // A refusal as document 01 returns it: number, value and record number.
@@ -108,6 +118,11 @@ impl Refusal {
             Refusal::CountsTooLargeForOld => 34,
             Refusal::WaveformStart => 35,
             Refusal::FieldLacking => 36,
+            Refusal::NoDescriptors => 37,
+            Refusal::DescriptorBytes => 38,
+            Refusal::DataType => 39,
+            Refusal::AttributeSizes => 40,
+            Refusal::NameNotFound => 41,
         }
     }
 
@@ -152,6 +167,11 @@ impl Refusal {
             Refusal::CountsTooLargeForOld => 0,
             Refusal::WaveformStart => 0,
             Refusal::FieldLacking => 0,
+            Refusal::NoDescriptors => 0,
+            Refusal::DescriptorBytes => 0,
+            Refusal::DataType => 0,
+            Refusal::AttributeSizes => 0,
+            Refusal::NameNotFound => 0,
         }
     }
 
