@@ -90,13 +90,29 @@ pub enum Kind {
     AttributeSizes,
     /// 41: no descriptor of extra bytes has the name.
     NameNotFound,
+    /// 42: no VLR holds a directory of coordinate keys.
+    NoDirectory,
+    /// 43: the directory of coordinate keys is shorter than it says.
+    DirectoryShort,
+    /// 44: the coordinate keys are not in rising order.
+    KeysNotRising,
+    /// 45: a coordinate key points to a record that cannot hold its value.
+    UnknownLocation,
+    /// 46: a coordinate key points to a record that the file does not have.
+    TargetAbsent,
+    /// 47: a coordinate key's value ends beyond the record that it stands in.
+    TargetBeyond,
+    /// 48: the directory does not have the coordinate key.
+    KeyNotFound,
+    /// 49: there are more coordinate keys than a VLR holds.
+    TooManyKeys,
     /// A number that this version of the crate does not know.
     Unknown(u64),
 }
 
 impl Kind {
     /// Every kind that has a number, in the table's order.
-    const ALL: [Kind; 41] = [
+    const ALL: [Kind; 49] = [
         Kind::Short,
         Kind::Signature,
         Kind::Version,
@@ -138,6 +154,14 @@ impl Kind {
         Kind::DataType,
         Kind::AttributeSizes,
         Kind::NameNotFound,
+        Kind::NoDirectory,
+        Kind::DirectoryShort,
+        Kind::KeysNotRising,
+        Kind::UnknownLocation,
+        Kind::TargetAbsent,
+        Kind::TargetBeyond,
+        Kind::KeyNotFound,
+        Kind::TooManyKeys,
     ];
 
     /// The kind with this number.
@@ -193,6 +217,14 @@ impl Kind {
             Kind::DataType => 39,
             Kind::AttributeSizes => 40,
             Kind::NameNotFound => 41,
+            Kind::NoDirectory => 42,
+            Kind::DirectoryShort => 43,
+            Kind::KeysNotRising => 44,
+            Kind::UnknownLocation => 45,
+            Kind::TargetAbsent => 46,
+            Kind::TargetBeyond => 47,
+            Kind::KeyNotFound => 48,
+            Kind::TooManyKeys => 49,
             Kind::Unknown(number) => number,
         }
     }
@@ -241,6 +273,14 @@ impl Kind {
             Kind::DataType => "data type",
             Kind::AttributeSizes => "attribute sizes",
             Kind::NameNotFound => "name not found",
+            Kind::NoDirectory => "no directory",
+            Kind::DirectoryShort => "directory short",
+            Kind::KeysNotRising => "keys not rising",
+            Kind::UnknownLocation => "unknown location",
+            Kind::TargetAbsent => "target absent",
+            Kind::TargetBeyond => "target beyond its end",
+            Kind::KeyNotFound => "key not found",
+            Kind::TooManyKeys => "too many keys",
             Kind::Unknown(_) => "unknown",
         }
     }
@@ -288,7 +328,7 @@ impl Refusal {
         self.kind
     }
 
-    /// The number in the library's table, 1 to 41.
+    /// The number in the library's table, 1 to 49.
     pub fn number(&self) -> u64 {
         self.kind.number()
     }
@@ -553,6 +593,32 @@ impl fmt::Display for Refusal {
             Kind::NameNotFound => f.write_str(
                 "no descriptor of extra bytes has this name, which is compared byte by byte, capitals and blanks too",
             ),
+            Kind::NoDirectory => f.write_str(
+                "the file has no coordinate keys: no VLR has the user id \"LASF_Projection\" and the record id 34735",
+            ),
+            Kind::DirectoryShort => f.write_str(
+                "the directory of coordinate keys (\"LASF_Projection\", 34735) is damaged: it has fewer bytes than 8, or than 8 more for \
+                 each of the keys that it counts",
+            ),
+            Kind::KeysNotRising => f.write_str(
+                "the coordinate keys are not in rising order: one is not above the one before it",
+            ),
+            Kind::UnknownLocation => f.write_str(
+                "a coordinate key points to a record that holds no values: the location of a value is 0, 34736 or 34737",
+            ),
+            Kind::TargetAbsent => f.write_str(
+                "a coordinate key points to a record that the file does not have: no VLR has the user id \"LASF_Projection\" and the \
+                 record id 34736 (numbers) or 34737 (text) that it names",
+            ),
+            Kind::TargetBeyond => f.write_str(
+                "a coordinate key points beyond the end of the record (\"LASF_Projection\", 34736 or 34737) that its value stands in",
+            ),
+            Kind::KeyNotFound => f.write_str(
+                "the file does not have this coordinate key",
+            ),
+            Kind::TooManyKeys => f.write_str(
+                "a directory has at most 8190 coordinate keys, which is what a VLR holds",
+            ),
             Kind::Unknown(number) => write!(
                 f,
                 "refusal {number} with value {value}, which this version of the crate does not know"
@@ -577,7 +643,8 @@ mod tests {
         assert_eq!(Kind::from_number(35), Kind::WaveformStart);
         assert_eq!(Kind::from_number(36), Kind::FieldLacking);
         assert_eq!(Kind::from_number(41), Kind::NameNotFound);
-        assert_eq!(Kind::from_number(42), Kind::Unknown(42));
+        assert_eq!(Kind::from_number(49), Kind::TooManyKeys);
+        assert_eq!(Kind::from_number(50), Kind::Unknown(50));
         assert_eq!(Kind::from_number(u64::MAX), Kind::Unknown(u64::MAX));
     }
 
@@ -585,7 +652,7 @@ mod tests {
     fn every_kind_has_a_name_and_a_sentence_of_its_own() {
         let mut names = Vec::new();
         let mut sentences = Vec::new();
-        for number in 1..=41 {
+        for number in 1..=49 {
             let refusal = Refusal::from_row(number, 7, 3);
             names.push(refusal.name());
             sentences.push(refusal.to_string());
@@ -594,7 +661,7 @@ mod tests {
         names.dedup();
         sentences.sort_unstable();
         sentences.dedup();
-        assert_eq!((names.len(), sentences.len()), (41, 41));
+        assert_eq!((names.len(), sentences.len()), (49, 49));
         assert!(sentences.iter().all(|words| !words.ends_with('.')));
     }
 

@@ -3,7 +3,7 @@ use Prim.Native.Nat.{ℕ, _^_}
 use mathlib.Core.Bool.{cond}
 use lib.Dec.{ltb}
 use Rattle.refusal.specs.declared.Refusal.{Refusal}
-use Rattle.refusal.specs.declared.Refusal.the-variants.{Short, Signature, Version, HeaderSize, Format, Compressed, FormatForVersion, RecordLength, PointOffset, Allowance, VlrExtent, PointExtent, EvlrExtent, EvlrStart, ReturnNumber, NumberOfReturns, Class, Channel, Overlap, Nir, Angle, NoRoom, ExtraBytes, VlrDataLength, Attributes, NoPair, Index, NotVersion12, NoRecords, CountNeither, CountTooLarge, OtherVersionOrFormat, EvlrsOrWaveforms, CountsTooLargeForOld, WaveformStart, FieldLacking, NoDescriptors, DescriptorBytes, DataType, AttributeSizes, NameNotFound}
+use Rattle.refusal.specs.declared.Refusal.the-variants.{Short, Signature, Version, HeaderSize, Format, Compressed, FormatForVersion, RecordLength, PointOffset, Allowance, VlrExtent, PointExtent, EvlrExtent, EvlrStart, ReturnNumber, NumberOfReturns, Class, Channel, Overlap, Nir, Angle, NoRoom, ExtraBytes, VlrDataLength, Attributes, NoPair, Index, NotVersion12, NoRecords, CountNeither, CountTooLarge, OtherVersionOrFormat, EvlrsOrWaveforms, CountsTooLargeForOld, WaveformStart, FieldLacking, NoDescriptors, DescriptorBytes, DataType, AttributeSizes, NameNotFound, NoDirectory, DirectoryShort, KeysNotRising, UnknownLocation, TargetAbsent, TargetBeyond, KeyNotFound, TooManyKeys}
 use Rattle.refusal.specs.declared.Row.{Row}
 
 -- the column "no."
@@ -54,6 +54,15 @@ numberOf DescriptorBytes = 38
 numberOf DataType = 39
 numberOf AttributeSizes = 40
 numberOf NameNotFound = 41
+-- No. 14: "no directory; directory short; keys not rising; unknown location; target record absent; target beyond its end; key not found"; writing, "over 8,190 keys"
+numberOf NoDirectory = 42
+numberOf DirectoryShort = 43
+numberOf KeysNotRising = 44
+numberOf UnknownLocation = 45
+numberOf TargetAbsent = 46
+numberOf TargetBeyond = 47
+numberOf KeyNotFound = 48
+numberOf TooManyKeys = 49
 
 -- "bytes wanted in all, 0 if over 2^64−1", and so "bytes or entries wanted, 0 likewise"
 unfoldable pub wantedOf : ℕ → ℕ
@@ -102,6 +111,14 @@ valueOf DescriptorBytes = 0
 valueOf DataType = 0
 valueOf AttributeSizes = 0
 valueOf NameNotFound = 0
+valueOf NoDirectory = 0
+valueOf DirectoryShort = 0
+valueOf KeysNotRising = 0
+valueOf UnknownLocation = 0
+valueOf TargetAbsent = 0
+valueOf TargetBeyond = 0
+valueOf KeyNotFound = 0
+valueOf TooManyKeys = 0
 
 -- a refusal at a record; the record number is 0 where document 01 names no record
 unfoldable pub rowOf : Refusal → ℕ → Row

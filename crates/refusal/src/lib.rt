@@ -67,6 +67,22 @@ pub enum Refusal {
     AttributeSizes,
     // No descriptor has the name.
     NameNotFound,
+    // No. 14, coordinate keys: no VLR holds the directory of keys.
+    NoDirectory,
+    // The directory is shorter than its keys.
+    DirectoryShort,
+    // A key is not above the one before it.
+    KeysNotRising,
+    // A key points to a record that holds no values of keys.
+    UnknownLocation,
+    // A key points to a record that is not there.
+    TargetAbsent,
+    // A value ends beyond the record that it stands in.
+    TargetBeyond,
+    // The directory does not have the key.
+    KeyNotFound,
+    // More keys are to be written than a VLR holds.
+    TooManyKeys,
 }
 
 // A refusal as document 01 returns it: number, value and record number.
@@ -123,6 +139,14 @@ impl Refusal {
             Refusal::DataType => 39,
             Refusal::AttributeSizes => 40,
             Refusal::NameNotFound => 41,
+            Refusal::NoDirectory => 42,
+            Refusal::DirectoryShort => 43,
+            Refusal::KeysNotRising => 44,
+            Refusal::UnknownLocation => 45,
+            Refusal::TargetAbsent => 46,
+            Refusal::TargetBeyond => 47,
+            Refusal::KeyNotFound => 48,
+            Refusal::TooManyKeys => 49,
         }
     }
 
@@ -172,6 +196,14 @@ impl Refusal {
             Refusal::DataType => 0,
             Refusal::AttributeSizes => 0,
             Refusal::NameNotFound => 0,
+            Refusal::NoDirectory => 0,
+            Refusal::DirectoryShort => 0,
+            Refusal::KeysNotRising => 0,
+            Refusal::UnknownLocation => 0,
+            Refusal::TargetAbsent => 0,
+            Refusal::TargetBeyond => 0,
+            Refusal::KeyNotFound => 0,
+            Refusal::TooManyKeys => 0,
         }
     }
 
