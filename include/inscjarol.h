@@ -110,7 +110,8 @@ enum {
     LAS_REFUSED_TARGET_ABSENT = 46,
     LAS_REFUSED_TARGET_BEYOND = 47,
     LAS_REFUSED_KEY_NOT_FOUND = 48,
-    LAS_REFUSED_TOO_MANY_KEYS = 49
+    LAS_REFUSED_TOO_MANY_KEYS = 49,
+    LAS_REFUSED_TOTAL_TOO_LARGE = 50
 };
 
 /* Some of the caller's bytes, as two numbers: where they start in the slice that was lent, and how many there are. Where there

@@ -115,8 +115,8 @@ pub fn stretches<T: Send>(size: u64, part: impl Fn(Range<u64>) -> T + Sync) -> V
     })
 }
 
-/// The numbers of documents 01 and 02, from 0 to 49.
-const NUMBERS: usize = 50;
+/// The numbers of documents 01 and 02, from 0 to 50.
+const NUMBERS: usize = 51;
 
 /// What comparing several calls on the same inputs came to: a report for each, and what was counted.
 pub struct Outcome<const CALLS: usize, const COUNTS: usize> {

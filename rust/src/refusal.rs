@@ -106,13 +106,15 @@ pub enum Kind {
     KeyNotFound,
     /// 49: there are more coordinate keys than a VLR holds.
     TooManyKeys,
+    /// 50: with this file a total of the sheet would be over 2^64 - 1.
+    TotalTooLarge,
     /// A number that this version of the crate does not know.
     Unknown(u64),
 }
 
 impl Kind {
     /// Every kind that has a number, in the table's order.
-    const ALL: [Kind; 49] = [
+    const ALL: [Kind; 50] = [
         Kind::Short,
         Kind::Signature,
         Kind::Version,
@@ -162,6 +164,7 @@ impl Kind {
         Kind::TargetBeyond,
         Kind::KeyNotFound,
         Kind::TooManyKeys,
+        Kind::TotalTooLarge,
     ];
 
     /// The kind with this number.
@@ -225,6 +228,7 @@ impl Kind {
             Kind::TargetBeyond => 47,
             Kind::KeyNotFound => 48,
             Kind::TooManyKeys => 49,
+            Kind::TotalTooLarge => 50,
             Kind::Unknown(number) => number,
         }
     }
@@ -281,6 +285,7 @@ impl Kind {
             Kind::TargetBeyond => "target beyond its end",
             Kind::KeyNotFound => "key not found",
             Kind::TooManyKeys => "too many keys",
+            Kind::TotalTooLarge => "total too large",
             Kind::Unknown(_) => "unknown",
         }
     }
@@ -328,7 +333,7 @@ impl Refusal {
         self.kind
     }
 
-    /// The number in the library's table, 1 to 49.
+    /// The number in the library's table, 1 to 50.
     pub fn number(&self) -> u64 {
         self.kind.number()
     }
@@ -619,6 +624,9 @@ impl fmt::Display for Refusal {
             Kind::TooManyKeys => f.write_str(
                 "a directory has at most 8190 coordinate keys, which is what a VLR holds",
             ),
+            Kind::TotalTooLarge => f.write_str(
+                "with this file a total of the sheet would be over 18446744073709551615, which is the most that it counts",
+            ),
             Kind::Unknown(number) => write!(
                 f,
                 "refusal {number} with value {value}, which this version of the crate does not know"
@@ -644,7 +652,8 @@ mod tests {
         assert_eq!(Kind::from_number(36), Kind::FieldLacking);
         assert_eq!(Kind::from_number(41), Kind::NameNotFound);
         assert_eq!(Kind::from_number(49), Kind::TooManyKeys);
-        assert_eq!(Kind::from_number(50), Kind::Unknown(50));
+        assert_eq!(Kind::from_number(50), Kind::TotalTooLarge);
+        assert_eq!(Kind::from_number(51), Kind::Unknown(51));
         assert_eq!(Kind::from_number(u64::MAX), Kind::Unknown(u64::MAX));
     }
 
@@ -652,7 +661,7 @@ mod tests {
     fn every_kind_has_a_name_and_a_sentence_of_its_own() {
         let mut names = Vec::new();
         let mut sentences = Vec::new();
-        for number in 1..=49 {
+        for number in 1..=50 {
             let refusal = Refusal::from_row(number, 7, 3);
             names.push(refusal.name());
             sentences.push(refusal.to_string());
@@ -661,7 +670,7 @@ mod tests {
         names.dedup();
         sentences.sort_unstable();
         sentences.dedup();
-        assert_eq!((names.len(), sentences.len()), (49, 49));
+        assert_eq!((names.len(), sentences.len()), (50, 50));
         assert!(sentences.iter().all(|words| !words.ends_with('.')));
     }
 

@@ -3,7 +3,7 @@ use Prim.Native.Nat.{ℕ, _^_}
 use mathlib.Core.Bool.{cond}
 use lib.Dec.{ltb}
 use Rattle.refusal.specs.declared.Refusal.{Refusal}
-use Rattle.refusal.specs.declared.Refusal.the-variants.{Short, Signature, Version, HeaderSize, Format, Compressed, FormatForVersion, RecordLength, PointOffset, Allowance, VlrExtent, PointExtent, EvlrExtent, EvlrStart, ReturnNumber, NumberOfReturns, Class, Channel, Overlap, Nir, Angle, NoRoom, ExtraBytes, VlrDataLength, Attributes, NoPair, Index, NotVersion12, NoRecords, CountNeither, CountTooLarge, OtherVersionOrFormat, EvlrsOrWaveforms, CountsTooLargeForOld, WaveformStart, FieldLacking, NoDescriptors, DescriptorBytes, DataType, AttributeSizes, NameNotFound, NoDirectory, DirectoryShort, KeysNotRising, UnknownLocation, TargetAbsent, TargetBeyond, KeyNotFound, TooManyKeys}
+use Rattle.refusal.specs.declared.Refusal.the-variants.{Short, Signature, Version, HeaderSize, Format, Compressed, FormatForVersion, RecordLength, PointOffset, Allowance, VlrExtent, PointExtent, EvlrExtent, EvlrStart, ReturnNumber, NumberOfReturns, Class, Channel, Overlap, Nir, Angle, NoRoom, ExtraBytes, VlrDataLength, Attributes, NoPair, Index, NotVersion12, NoRecords, CountNeither, CountTooLarge, OtherVersionOrFormat, EvlrsOrWaveforms, CountsTooLargeForOld, WaveformStart, FieldLacking, NoDescriptors, DescriptorBytes, DataType, AttributeSizes, NameNotFound, NoDirectory, DirectoryShort, KeysNotRising, UnknownLocation, TargetAbsent, TargetBeyond, KeyNotFound, TooManyKeys, TotalTooLarge}
 use Rattle.refusal.specs.declared.Row.{Row}
 
 -- the column "no."
@@ -63,6 +63,8 @@ numberOf TargetAbsent = 46
 numberOf TargetBeyond = 47
 numberOf KeyNotFound = 48
 numberOf TooManyKeys = 49
+-- No. 9: "a total over 2^64−1"
+numberOf TotalTooLarge = 50
 
 -- "bytes wanted in all, 0 if over 2^64−1", and so "bytes or entries wanted, 0 likewise"
 unfoldable pub wantedOf : ℕ → ℕ
@@ -119,6 +121,7 @@ valueOf TargetAbsent = 0
 valueOf TargetBeyond = 0
 valueOf KeyNotFound = 0
 valueOf TooManyKeys = 0
+valueOf TotalTooLarge = 0
 
 -- a refusal at a record; the record number is 0 where document 01 names no record
 unfoldable pub rowOf : Refusal → ℕ → Row

@@ -83,6 +83,8 @@ pub enum Refusal {
     KeyNotFound,
     // More keys are to be written than a VLR holds.
     TooManyKeys,
+    // No. 9, the site sheet: a total would pass 2^64 - 1.
+    TotalTooLarge,
 }
 
 // A refusal as document 01 returns it: number, value and record number.
@@ -147,6 +149,7 @@ impl Refusal {
             Refusal::TargetBeyond => 47,
             Refusal::KeyNotFound => 48,
             Refusal::TooManyKeys => 49,
+            Refusal::TotalTooLarge => 50,
         }
     }
 
@@ -204,6 +207,7 @@ impl Refusal {
             Refusal::TargetBeyond => 0,
             Refusal::KeyNotFound => 0,
             Refusal::TooManyKeys => 0,
+            Refusal::TotalTooLarge => 0,
         }
     }
 

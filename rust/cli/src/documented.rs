@@ -26,7 +26,7 @@ const NOT_ACCEPTED: (&str, &str, &str) = ("accepted", "false", "it is none");
 const NUMBER: (&str, &str, &str) = (
     "refusal.number",
     "number",
-    "1 to 49, by the library's table",
+    "1 to 50, by the library's table",
 );
 const KIND: (&str, &str, &str) = ("refusal.name", "text", "what the table calls it");
 const VALUE: (&str, &str, &str) = (
