@@ -128,7 +128,7 @@ pub struct Stretch {
 impl Stretch {
     /// The first point and how many they are, in a file of so many points. A stretch that ends before it begins has the first
     /// point 0, which the library refuses as it refuses any that is not there.
-    fn in_file(self, points: u64) -> (u64, u64) {
+    pub(crate) fn in_file(self, points: u64) -> (u64, u64) {
         // No file has so many points that this would be one of them.
         let end = self.last.unwrap_or(points).saturating_add(1);
         end.checked_sub(self.first)

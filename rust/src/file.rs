@@ -136,6 +136,21 @@ impl<'a> File<'a> {
         self.records_of(PartKind::Vlr)
     }
 
+    /// The data of the first VLR with this user id, of which all 16 bytes are compared, zeros filling this one, and this record id.
+    ///
+    /// ```
+    /// # let bytes = std::fs::read("../samples/stockpile.las")?;
+    /// let file = inscjarol::File::check(&bytes)?;
+    /// assert_eq!(file.vlr_data("LASF_Spec", 4).map(<[u8]>::len), Some(192));
+    /// assert_eq!(file.vlr_data("LASF_Spec", 5), None);
+    /// # Ok::<(), Box<dyn std::error::Error>>(())
+    /// ```
+    pub fn vlr_data(&self, user: impl AsRef<[u8]>, record_id: u16) -> Option<&'a [u8]> {
+        let found = sys::vlr_first(self.bytes, self.allowance, user.as_ref(), record_id);
+        // The file was checked, and is not refused now.
+        found.ok().flatten()
+    }
+
     /// The EVLRs, which stand after the points.
     pub fn evlrs(&self) -> Vlrs<'a> {
         self.records_of(PartKind::Evlr)

@@ -66,6 +66,8 @@
 //! A viewer wants one field of many points, or their places or their colours, and takes [`columns`]: [`File::column`] fills a buffer
 //! that is lent, and nothing else is read.
 //!
+//! What the extra bytes of the points hold, as a reflectance, is found by its name: [`File::attributes`], and the module [`attributes`].
+//!
 //! A whole file of LAS 1.2 becomes one of LAS 1.4, for clients who move to newer software, by [`File::to_new`], and comes back by
 //! [`File::to_old`].
 //!
@@ -93,6 +95,7 @@
 
 mod angle;
 mod append;
+pub mod attributes;
 pub mod columns;
 mod convert;
 mod error;
@@ -112,6 +115,7 @@ mod writer;
 
 pub use angle::ScanAngle;
 pub use append::{Append, Appended, Offer, Sector, Step, Sweep};
+pub use attributes::{Attribute, Attributes, DataType, Descriptor, Value};
 pub use columns::{Column, Stretch};
 pub use convert::Run;
 pub use error::Error;

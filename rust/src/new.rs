@@ -1,6 +1,7 @@
 //! New files, to be appended to.
 
 use crate::{
+    attributes::{self, Descriptor},
     error::Error,
     file::File,
     format::Format,
@@ -58,6 +59,7 @@ pub struct NewFile<'a> {
     software: &'a str,
     year: u16,
     day_of_year: u16,
+    descriptors: Vec<Descriptor>,
     vlrs: Vec<Vlr<'a>>,
     room: u64,
 }
@@ -77,12 +79,13 @@ impl<'a> NewFile<'a> {
             software: "inscjarol",
             year: 0,
             day_of_year: 0,
+            descriptors: Vec::new(),
             vlrs: Vec::new(),
             room: 0,
         }
     }
 
-    /// How many extra bytes each point has; 0 where it is not said.
+    /// How many extra bytes each point has, besides those of its attributes; 0 where it is not said.
     pub fn extra_bytes(self, extra_bytes: u16) -> Self {
         Self {
             extra_bytes,
@@ -136,6 +139,38 @@ impl<'a> NewFile<'a> {
             day_of_year,
             ..self
         }
+    }
+
+    /// The attributes that each point has, behind those that were given before: their values are the first of its extra bytes, in this
+    /// order, and the first VLR of the file describes them.
+    ///
+    /// ```
+    /// use inscjarol::{Append, DataType, Descriptor, File, NewFile, Point};
+    /// # fn main() -> Result<(), inscjarol::Error> {
+    ///
+    /// let reflectance = Descriptor::new("reflectance", DataType::I16).with_scale(0.01);
+    /// let pulse_width = Descriptor::new("pulse width", DataType::U16);
+    /// let mut bytes = NewFile::new(1).attributes(&[reflectance, pulse_width]).room(1).to_vec()?;
+    ///
+    /// // The values of a point, each with its lowest byte first.
+    /// let mut extra_bytes = Vec::new();
+    /// extra_bytes.extend((-1_208_i16).to_le_bytes());
+    /// extra_bytes.extend(37_u16.to_le_bytes());
+    /// let file = File::check(&bytes)?;
+    /// let point = Point { extra_bytes: &extra_bytes, ..Point::default() };
+    /// let records = point.to_vec(file.format())?;
+    /// Append::of(&file, &records, 0).apply(&mut bytes)?;
+    ///
+    /// let file = File::check(&bytes)?;
+    /// let attributes = file.attributes()?;
+    /// assert_eq!(attributes.find("reflectance")?.scaled(1)?, Some(-12.08));
+    /// assert_eq!(attributes.find("pulse width")?.scaled(1)?, Some(37.0));
+    /// # Ok(())
+    /// # }
+    /// ```
+    pub fn attributes(mut self, descriptors: &[Descriptor]) -> Self {
+        self.descriptors.extend(descriptors);
+        self
     }
 
     /// One VLR more, behind those that were given before. One that says to be extended is written as a VLR all the same, since
@@ -200,10 +235,21 @@ impl<'a> NewFile<'a> {
     /// Header and VLRs.
     fn front(&self) -> Result<Vec<u8>, Error> {
         self.judge()?;
-        let format = Format::new(self.format)?.with_extra_bytes(self.extra_bytes);
-        let mut vlrs = Vec::new();
-        for vlr in &self.vlrs {
+        let format = Format::new(self.format)?.with_extra_bytes(self.all_extra_bytes()?);
+        let described = attributes::to_vlr_data(&self.descriptors);
+        let description = Vlr::new(
+            false,
+            attributes::USER_ID,
+            attributes::RECORD_ID,
+            "extra bytes",
+            &described,
+        );
+        let describing = (!described.is_empty()).then_some(&description);
+        let (mut vlrs, mut number_of_vlrs) = (Vec::new(), 0_u32);
+        for vlr in describing.into_iter().chain(&self.vlrs) {
             vlrs.extend(vlr.to_vec()?);
+            // As many as fit before the points fit into the field.
+            number_of_vlrs = number_of_vlrs.saturating_add(1);
         }
         let mut header = Header::new(Version { major: 1, minor: 2 })?;
         let offset = vlrs.len().saturating_add(usize::from(header.header_size));
@@ -212,8 +258,7 @@ impl<'a> NewFile<'a> {
                 "with these VLRs the points would begin at byte {offset}: 4294967295 is the last at which they can"
             ))
         })?;
-        // As many as fit before that byte fit into the field.
-        header.number_of_variable_length_records = self.vlrs.len() as u32;
+        header.number_of_variable_length_records = number_of_vlrs;
         header.point_data_record_format = self.format;
         header.point_data_record_length = format.len()?;
         header.file_source_id = self.source_id;
@@ -234,6 +279,17 @@ impl<'a> NewFile<'a> {
         // That the format is one of LAS 1.2 is the file check's to say.
         File::check(&bytes)?;
         Ok(bytes)
+    }
+
+    /// The extra bytes of each point: those of its attributes, and then the others.
+    fn all_extra_bytes(&self) -> Result<u16, Error> {
+        let sizes = (self.descriptors.iter()).map(|descriptor| descriptor.data_type().size());
+        let bytes = sizes.fold(usize::from(self.extra_bytes), usize::saturating_add);
+        u16::try_from(bytes).map_err(|_| {
+            Error::Setting(format!(
+                "a point would have {bytes} extra bytes with these attributes: 65535 are the most that can be counted"
+            ))
+        })
     }
 
     /// That the settings are of a file that somebody can use; the rules of the format are the library's to know.
