@@ -54,11 +54,12 @@ pub(crate) struct Columns {
 }
 
 impl Columns {
-    /// The columns of a row, as far as the file's points have them; none where the row has other fields too. Each stretch costs the
-    /// file check once more, which looks at every record; so a file with many of them is walked over.
-    pub(crate) fn of(row: &Row, file: &File<'_>) -> Option<Columns> {
+    /// The columns of a row, as far as the file's points have them; none where the row has other fields of the standard too. Attributes need
+    /// no point to be read. Each stretch costs the file check once more, which looks at every record; so a file with many of them is
+    /// walked over.
+    pub(crate) fn of(row: &Row<'_>, file: &File<'_>) -> Option<Columns> {
         let format = file.format();
-        let only_these = row.names().all(|name| FIELDS.contains(&name));
+        let only_these = row.standard_names().all(|name| FIELDS.contains(&name));
         let wants = |name: &str, has: bool| has && row.names().any(|own| own == name);
         (only_these && file.records() <= STRETCH as u64).then(|| Columns {
             x: Numbers::new(X, wants("x", true)),

@@ -156,6 +156,36 @@ const OBJECTS: &[(&str, Fields)] = &[
                 "number or null",
                 "first byte; null before LAS 1.3",
             ),
+            ("attributes[].name", "text", "as in its descriptor"),
+            ("attributes[].description", "text", "as in its descriptor"),
+            (
+                "attributes[].data_type",
+                "number",
+                "0 to 10, by the standard",
+            ),
+            ("attributes[].type", "text", "as i16, or 3 bytes"),
+            ("attributes[].start", "number", "first byte in a point"),
+            ("attributes[].length", "number", "bytes in a point"),
+            (
+                "attributes[].scale",
+                "number or null",
+                "null where none is said to count",
+            ),
+            ("attributes[].offset", "number or null", "likewise"),
+            (
+                "attributes_refused",
+                "null",
+                "where the descriptors are taken, or there are no extra bytes; else",
+            ),
+            (
+                "attributes_refused.number",
+                "number",
+                "37 to 40: why there are no attributes",
+            ),
+            ("attributes_refused.name", "text", "as for refusal"),
+            ("attributes_refused.value", "number", "0"),
+            ("attributes_refused.record", "number", "0"),
+            ("attributes_refused.words", "text", "a sentence"),
             ("vlrs[].user_id", "text", "who defined it"),
             ("vlrs[].record_id", "number", "which of the user's it is"),
             ("vlrs[].description", "text", "as in the file"),
@@ -398,7 +428,7 @@ const OBJECTS: &[(&str, Fields)] = &[
 pub(crate) fn text() -> String {
     let mut text = String::from(BEGIN);
     let line = |text: &mut String, path: &str, of: &str, words: &str| {
-        let line = format!("  {path:<24}{of:<16}{words}");
+        let line = format!("  {path:<26}{of:<16}{words}");
         let _ = writeln!(text, "{}", line.trim_end());
     };
     for (heading, fields) in OBJECTS {
@@ -414,8 +444,8 @@ pub(crate) fn text() -> String {
         line(&mut text, name, of, &words);
     }
     text.push_str(
-        "\nand the extra bytes that the file describes: a number or null, or a text of hexadecimal digits where they are of no\n\
-         kind that is known.\n",
+        "\nand the attributes that the file describes: a number or null, or a text of hexadecimal digits where they are bytes\n\
+         of which nothing is said.\n",
     );
     text
 }

@@ -2,11 +2,11 @@
 
 use super::{
     decimal::{self, Scaled},
-    extra::{self, Extra, Kind},
+    extra::{self, Extras},
     json, near,
     show::plain,
 };
-use inscjarol::{Flags, Format, Header, Point, ScanAngle, ScanDirection};
+use inscjarol::{Attribute, File, Flags, Format, Point, ScanAngle, ScanDirection, Value as Stored};
 use std::collections::HashSet;
 
 /// Where a field's value is in a point.
@@ -177,65 +177,56 @@ fn twice(name: &str) -> String {
 }
 
 /// What writes points: the columns that were chosen.
-pub(crate) struct Row {
-    columns: Vec<Column>,
+pub(crate) struct Row<'a> {
+    columns: Vec<Column<'a>>,
     scratch: Vec<u8>,
 }
 
 /// A column: a field and how its values are written.
-struct Column {
+struct Column<'a> {
     name: String,
     /// What stands before a value in JSON.
     key: Vec<u8>,
-    value: Value,
+    value: Value<'a>,
 }
 
 /// How a column's values are written.
-enum Value {
+enum Value<'a> {
     Of(Get),
     Scaled(fn(&Point<'_>) -> i32, Scaled),
     Degrees,
-    Extra(Extra, Form),
+    Attribute(Box<Attribute<'a>>, Form),
 }
 
-/// How the values of an extra field are written.
+/// How the values of an attribute are written.
 enum Form {
-    Bytes,
-    Unsigned,
-    Signed,
-    /// Whole numbers, scaled; and whether they have a sign.
-    Scaled(Scaled, bool),
-    Single,
-    Double,
+    /// As they are stored.
+    Stored,
+    /// Whole numbers, scaled.
+    Scaled(Scaled),
     /// Floats, scaled: scale and offset.
-    ScaledSingle(f64, f64),
-    ScaledDouble(f64, f64),
+    ScaledFloat(f64, f64),
 }
 
 impl Form {
-    fn new(extra: &Extra, raw: bool) -> Form {
-        let scaled = !raw && (extra.scale.is_some() || extra.offset.is_some());
-        let (scale, offset) = (extra.scale.unwrap_or(1.0), extra.offset.unwrap_or(0.0));
-        match (extra.kind, extra.kind.range()) {
-            (Kind::Unsigned(_), Some(range)) if scaled => {
-                Form::Scaled(Scaled::new(scale, offset, range), false)
-            }
-            (Kind::Signed(_), Some(range)) if scaled => {
-                Form::Scaled(Scaled::new(scale, offset, range), true)
-            }
-            (Kind::Float, _) if scaled => Form::ScaledSingle(scale, offset),
-            (Kind::Double, _) if scaled => Form::ScaledDouble(scale, offset),
-            (Kind::Bytes(_), _) => Form::Bytes,
-            (Kind::Unsigned(_), _) => Form::Unsigned,
-            (Kind::Signed(_), _) => Form::Signed,
-            (Kind::Float, _) => Form::Single,
-            (Kind::Double, _) => Form::Double,
+    fn new(attribute: &Attribute<'_>, raw: bool) -> Form {
+        let (scale, offset) = match (
+            attribute.descriptor().scale(),
+            attribute.descriptor().offset(),
+        ) {
+            (None, None) => return Form::Stored,
+            (scale, offset) => (scale.unwrap_or(1.0), offset.unwrap_or(0.0)),
+        };
+        match (raw, extra::range(attribute.data_type())) {
+            (true, _) => Form::Stored,
+            (false, Some(range)) => Form::Scaled(Scaled::new(scale, offset, range)),
+            (false, None) => Form::ScaledFloat(scale, offset),
         }
     }
 }
 
-impl Column {
-    fn new(name: &str, value: Value) -> Column {
+impl<'a> Column<'a> {
+    fn new(name: &str, value: Value<'a>) -> Column<'a> {
         Column {
             name: name.to_string(),
             key: format!("{}:", json::quoted(name)).into_bytes(),
@@ -244,12 +235,15 @@ impl Column {
     }
 }
 
-/// The extra fields with names that no two share, with the standard's fields or with each other, and that steer no terminal.
-fn with_names(extras: &[Extra]) -> Vec<(String, &Extra)> {
+/// An attribute with the name that it has among the fields.
+type Named<'a> = (String, Attribute<'a>);
+
+/// The attributes with names that no two share, with the standard's fields or with each other, and that steer no terminal.
+fn with_names<'a>(attributes: &[Attribute<'a>]) -> Vec<Named<'a>> {
     let mut taken: HashSet<String> = names().map(String::from).collect();
     let mut named = Vec::new();
-    for extra in extras {
-        let own = match plain(&extra.name) {
+    for attribute in attributes {
+        let own = match plain(&attribute.name()) {
             name if name.trim().is_empty() => String::from("unnamed"),
             name => name,
         };
@@ -259,21 +253,21 @@ fn with_names(extras: &[Extra]) -> Vec<(String, &Extra)> {
             number = number.saturating_add(1);
             name = format!("{own}_{number}");
         }
-        named.push((name, extra));
+        named.push((name, *attribute));
     }
     named
 }
 
-impl Row {
-    /// The columns of this choice.
+impl<'a> Row<'a> {
+    /// The columns of this choice for the points of a file, which has these attributes.
     pub(crate) fn new(
         choice: &Choice,
         raw: bool,
-        header: &Header,
-        format: &Format,
-        extras: &[Extra],
-    ) -> Result<Row, String> {
-        let extras = with_names(extras);
+        file: &File<'a>,
+        extras: &Extras<'a>,
+    ) -> Result<Row<'a>, String> {
+        let (header, format) = (file.header(), &file.format());
+        let attributes = with_names(&extras.attributes);
         let standard = |Standard(name, _, _, _, get): &Standard| {
             let axes = [
                 (header.x_scale_factor, header.x_offset),
@@ -291,12 +285,12 @@ impl Row {
             };
             Column::new(name, value)
         };
-        let described = |(name, extra): &(String, &Extra)| {
-            let extra: &Extra = extra;
-            Column::new(name, Value::Extra(extra.clone(), Form::new(extra, raw)))
+        let described = |(name, attribute): &Named<'a>| {
+            let form = Form::new(attribute, raw);
+            Column::new(name, Value::Attribute(Box::new(*attribute), form))
         };
         let has = |field: &&Standard| (field.3)(format);
-        let columns: Vec<Column> = match choice {
+        let columns: Vec<Column<'a>> = match choice {
             Choice::Usual => FIELDS
                 .iter()
                 .filter(|Standard(name, ..)| USUAL.contains(name))
@@ -304,23 +298,24 @@ impl Row {
                 .map(standard)
                 .collect(),
             Choice::All => {
-                let told: usize = extras.iter().map(|(_, extra)| extra.kind.size()).sum();
+                let sizes = attributes.iter().map(|(_, of)| of.data_type().size());
+                let told: usize = sizes.sum();
                 let all_told = told == usize::from(format.extra_bytes);
                 FIELDS
                     .iter()
                     .filter(|field| field.0 != "extra" || !all_told)
                     .filter(has)
                     .map(standard)
-                    .chain(extras.iter().map(described))
+                    .chain(attributes.iter().map(described))
                     .collect()
             }
             Choice::Named(chosen) => {
-                let mut columns: Vec<Column> = Vec::new();
+                let mut columns: Vec<Column<'a>> = Vec::new();
                 for name in chosen {
-                    let column = match found(name, &extras) {
+                    let column = match found(name, &attributes) {
                         Some(Found::Standard(field)) => standard(field),
-                        Some(Found::Extra(extra)) => described(extra),
-                        None => return Err(unknown(name, &extras)),
+                        Some(Found::Attribute(attribute)) => described(attribute),
+                        None => return Err(unknown(name, &attributes, extras)),
                     };
                     if columns.iter().any(|other| other.name == column.name) {
                         return Err(twice(&column.name));
@@ -341,33 +336,43 @@ impl Row {
         self.columns.iter().map(|column| column.name.as_str())
     }
 
+    /// The names of those that are fields of the standard.
+    pub(crate) fn standard_names(&self) -> impl Iterator<Item = &str> {
+        let is_standard = |column: &&Column<'_>| !matches!(column.value, Value::Attribute(..));
+        let columns = self.columns.iter().filter(is_standard);
+        columns.map(|column| column.name.as_str())
+    }
+
     /// The line of names.
     pub(crate) fn heading(&self) -> String {
         let names: Vec<String> = self.names().map(csv).collect();
         names.join(",")
     }
 
-    /// A point as a line of CSV, at the end of `to`.
-    pub(crate) fn csv(&mut self, point: &Point<'_>, to: &mut Vec<u8>) {
+    /// A point, which has this number in the file, as a line of CSV, at the end of `to`.
+    pub(crate) fn csv(&mut self, number: u64, point: &Point<'_>, to: &mut Vec<u8>) {
         let mut first = true;
         for column in &self.columns {
             if !first {
                 to.push(b',');
             }
             first = false;
-            column.value.write(point, false, &mut self.scratch, to);
+            column
+                .value
+                .write(number, point, false, &mut self.scratch, to);
         }
         to.push(b'\n');
     }
 
-    /// A point as a line of JSON, at the end of `to`.
-    pub(crate) fn json(&mut self, point: &Point<'_>, to: &mut Vec<u8>) {
+    /// A point, which has this number in the file, as a line of JSON, at the end of `to`.
+    pub(crate) fn json(&mut self, number: u64, point: &Point<'_>, to: &mut Vec<u8>) {
         let mut before = b'{';
         for column in &self.columns {
             to.push(before);
             before = b',';
             to.extend_from_slice(&column.key);
-            if !column.value.write(point, true, &mut self.scratch, to) {
+            let value = &column.value;
+            if !value.write(number, point, true, &mut self.scratch, to) {
                 to.extend_from_slice(b"null");
             }
         }
@@ -375,11 +380,12 @@ impl Row {
     }
 }
 
-impl Value {
-    /// Writes the value of a point, and answers whether there is one.
+impl Value<'_> {
+    /// Writes the value of a point, which has this number in the file, and answers whether there is one.
     #[inline]
     fn write(
         &self,
+        number: u64,
         point: &Point<'_>,
         json: bool,
         scratch: &mut Vec<u8>,
@@ -396,9 +402,9 @@ impl Value {
                 }
                 true
             }
-            Value::Extra(extra, form) => {
-                let bytes = extra.bytes(point.extra_bytes);
-                bytes.map_or(false, |bytes| form.write(bytes, json, scratch, to))
+            Value::Attribute(attribute, form) => {
+                let stored = attribute.value(number);
+                stored.map_or(false, |stored| form.write(stored, json, scratch, to))
             }
         }
     }
@@ -443,32 +449,43 @@ impl Get {
 }
 
 impl Form {
-    /// Writes the value that these bytes of a point hold.
-    fn write(&self, bytes: &[u8], json: bool, scratch: &mut Vec<u8>, to: &mut Vec<u8>) -> bool {
-        let double = || f64::from_bits(extra::number(bytes));
-        let single = || f32::from_bits(extra::number(bytes) as u32);
+    /// Writes a value that is stored so.
+    fn write(
+        &self,
+        stored: Stored<'_>,
+        json: bool,
+        scratch: &mut Vec<u8>,
+        to: &mut Vec<u8>,
+    ) -> bool {
         let real = |number: f64, to: &mut Vec<u8>| {
             let number = Some(number).filter(|number| !json || number.is_finite());
             given(number, decimal::float, to)
         };
-        match self {
-            Form::Bytes => {
+        match (self, stored) {
+            (_, Stored::Bytes(bytes)) => {
                 hex(bytes, json, to);
                 true
             }
-            Form::Unsigned => given(Some(extra::number(bytes)), decimal::unsigned, to),
-            Form::Signed => given(Some(extra::signed_number(bytes)), decimal::whole, to),
-            Form::Scaled(scaled, true) => scaled.write(extra::signed_number(bytes).into(), to),
-            Form::Scaled(scaled, false) => scaled.write(extra::number(bytes).into(), to),
-            Form::Single => {
-                let number = Some(single()).filter(|number| !json || number.is_finite());
+            (Form::Scaled(scaled), stored) => {
+                extra::whole(stored).map_or(false, |stored| scaled.write(stored, to))
+            }
+            (Form::ScaledFloat(scale, offset), Stored::F32(number)) => {
+                real(decimal::widened(number, scratch) * scale + offset, to)
+            }
+            (Form::ScaledFloat(scale, offset), stored) => {
+                let number = stored.to_f64();
+                number.map_or(false, |number| real(number * scale + offset, to))
+            }
+            (Form::Stored, Stored::F32(number)) => {
+                let number = Some(number).filter(|number| !json || number.is_finite());
                 given(number, decimal::float_of_32, to)
             }
-            Form::Double => real(double(), to),
-            Form::ScaledSingle(scale, offset) => {
-                real(decimal::widened(single(), scratch) * scale + offset, to)
-            }
-            Form::ScaledDouble(scale, offset) => real(double() * scale + offset, to),
+            (Form::Stored, stored) => match stored.widened() {
+                Stored::U64(n) => given(Some(n), decimal::unsigned, to),
+                Stored::I64(n) => given(Some(n), decimal::whole, to),
+                Stored::F64(number) => real(number, to),
+                _ => false,
+            },
         }
     }
 }
@@ -511,13 +528,13 @@ fn csv(text: &str) -> String {
 }
 
 /// A field that was found by its name.
-enum Found<'a> {
+enum Found<'n, 'a> {
     Standard(&'static Standard),
-    Extra(&'a (String, &'a Extra)),
+    Attribute(&'n Named<'a>),
 }
 
 /// The field of this name: as it is written, or else in letters of either size, or by another of its names.
-fn found<'a>(name: &str, extras: &'a [(String, &'a Extra)]) -> Option<Found<'a>> {
+fn found<'n, 'a>(name: &str, attributes: &'n [Named<'a>]) -> Option<Found<'n, 'a>> {
     let exact = |other: &str| other == name;
     let like = |other: &str| other.eq_ignore_ascii_case(name);
     let of_standard = |same: &dyn Fn(&str) -> bool| {
@@ -525,8 +542,8 @@ fn found<'a>(name: &str, extras: &'a [(String, &'a Extra)]) -> Option<Found<'a>>
         field.map(Found::Standard)
     };
     let of_file = |same: &dyn Fn(&str) -> bool| {
-        let extra = extras.iter().find(|(own, _)| same(own));
-        extra.map(Found::Extra)
+        let attribute = attributes.iter().find(|(own, _)| same(own));
+        attribute.map(Found::Attribute)
     };
     let by_another = || {
         let field = FIELDS
@@ -541,10 +558,10 @@ fn found<'a>(name: &str, extras: &'a [(String, &'a Extra)]) -> Option<Found<'a>>
         .or_else(by_another)
 }
 
-/// That there is no such field, and what could be meant.
-fn unknown(name: &str, extras: &[(String, &Extra)]) -> String {
+/// That there is no such field, and what could be meant; or why the file has no attributes, of which it could be one.
+fn unknown(name: &str, attributes: &[Named<'_>], extras: &Extras<'_>) -> String {
     let standard: Vec<&str> = names().collect();
-    let described: Vec<&str> = extras.iter().map(|(name, _)| name.as_str()).collect();
+    let described: Vec<&str> = attributes.iter().map(|(name, _)| name.as_str()).collect();
     let others = FIELDS.iter().flat_map(|Standard(_, others, ..)| *others);
     let all = standard.iter().chain(&described).chain(others);
     let mut words = format!("there is no field '{name}'");
@@ -558,25 +575,60 @@ fn unknown(name: &str, extras: &[(String, &Extra)]) -> String {
     if !described.is_empty() {
         words.push_str(&format!("; and in this file {}", described.join(", ")));
     }
+    if let Some(refusal) = &extras.refusal {
+        words.push_str(&format!("; and in this file no attributes: {refusal}"));
+    }
     words
 }
 
 #[cfg(test)]
 mod tests {
     use super::*;
-    use inscjarol::Version;
+    use inscjarol::{Header, LargeFile, Version, Vlr};
 
-    fn header() -> Header {
+    /// A file of LAS 1.4 with one point of a format, whose extra bytes are described by these descriptors.
+    fn file(code: u8, descriptors: &[u8], point: Point<'_>) -> Vec<u8> {
+        let extra_bytes = point.extra_bytes.len() as u16;
+        let format = Format::new(code).unwrap().with_extra_bytes(extra_bytes);
+        let vlr = Vlr::new(false, "LASF_Spec", 4, "", descriptors);
         let mut header = Header::new(Version { major: 1, minor: 4 }).unwrap();
         header.x_scale_factor = 0.01;
         header.x_offset = 10.0;
+        header.y_scale_factor = 1.0;
         header.z_scale_factor = f64::NAN;
-        header
+        header.offset_to_point_data += vlr.size() as u32;
+        header.number_of_variable_length_records = 1;
+        header.point_data_record_format = code;
+        header.point_data_record_length = format.len().unwrap();
+        header.large_file = Some(LargeFile {
+            number_of_point_records: 1,
+            ..LargeFile::default()
+        });
+        let parts = [header.to_vec(&[]), vlr.to_vec(), point.to_vec(format)];
+        parts.map(Result::unwrap).concat()
     }
 
-    fn row(choice: Option<&str>, raw: bool, code: u8) -> Result<Row, String> {
-        let choice = Choice::new(choice)?;
-        Row::new(&choice, raw, &header(), &Format::new(code).unwrap(), &[])
+    /// What is written of the point of a file, under its heading.
+    fn written(
+        bytes: &[u8],
+        choice: Option<&str>,
+        raw: bool,
+        json: bool,
+    ) -> Result<(String, String), String> {
+        let file = File::check(bytes).unwrap();
+        let mut row = Row::new(&Choice::new(choice)?, raw, &file, &Extras::of(&file))?;
+        let point = file.points().next().unwrap();
+        let mut to = Vec::new();
+        match json {
+            true => row.json(1, &point, &mut to),
+            false => row.csv(1, &point, &mut to),
+        }
+        Ok((row.heading(), String::from_utf8(to).unwrap()))
+    }
+
+    fn heading(choice: Option<&str>, code: u8) -> Result<String, String> {
+        let bytes = file(code, &[], Point::default());
+        written(&bytes, choice, false, false).map(|(heading, _)| heading)
     }
 
     fn line(choice: &str, raw: bool, json: bool) -> String {
@@ -590,13 +642,8 @@ mod tests {
             extra_bytes: b"\x01\xff",
             ..Point::default()
         };
-        let mut row = row(Some(choice), raw, 6).unwrap();
-        let mut to = Vec::new();
-        match json {
-            true => row.json(&point, &mut to),
-            false => row.csv(&point, &mut to),
-        }
-        String::from_utf8(to).unwrap()
+        let bytes = file(6, &[], point);
+        written(&bytes, Some(choice), raw, json).unwrap().1
     }
 
     #[test]
@@ -624,7 +671,6 @@ mod tests {
 
     #[test]
     fn choices() {
-        let heading = |choice, code| row(choice, false, code).map(|row| row.heading());
         assert_eq!(
             heading(None, 0),
             Ok("x,y,z,intensity,return_number,number_of_returns,classification".into())
@@ -645,7 +691,7 @@ mod tests {
 
     #[test]
     fn other_names() {
-        let heading = |choice| row(Some(choice), false, 3).unwrap().heading();
+        let heading = |choice| heading(Some(choice), 3).unwrap();
         assert_eq!(heading("X,Y,Z,class"), "x,y,z,classification");
         assert_eq!(
             heading("GPS_Time,Intensity,angle"),
@@ -670,17 +716,13 @@ mod tests {
 
     /// What is written of extra bytes of this description.
     fn extra(description: &[u8], raw: bool, extra_bytes: &[u8]) -> String {
-        let extras = extra::described_by(description);
-        let format = Format::default().with_extra_bytes(extra_bytes.len() as u16);
-        let choice = Choice::Named(vec![String::from("a")]);
-        let mut row = Row::new(&choice, raw, &header(), &format, &extras).unwrap();
         let point = Point {
             extra_bytes,
             ..Point::default()
         };
-        let mut to = Vec::new();
-        row.csv(&point, &mut to);
-        String::from_utf8(to).unwrap().trim_end().to_string()
+        let bytes = file(0, description, point);
+        let (_, line) = written(&bytes, Some("a"), raw, false).unwrap();
+        line.trim_end().to_string()
     }
 
     #[test]
@@ -718,8 +760,13 @@ mod tests {
         for name in ["a", "a", "", "b\x1b[2J", "a_2", ""] {
             data.extend(description(1, 0, name, 0.0, 0.0));
         }
-        let extras = extra::described_by(&data);
-        let names: Vec<String> = with_names(&extras)
+        let point = Point {
+            extra_bytes: &[1, 2, 3, 4, 5, 6, 7],
+            ..Point::default()
+        };
+        let bytes = file(0, &data, point);
+        let file = File::check(&bytes).unwrap();
+        let names: Vec<String> = with_names(&Extras::of(&file).attributes)
             .into_iter()
             .map(|(name, _)| name)
             .collect();
@@ -735,14 +782,46 @@ mod tests {
                 "unnamed_2"
             ]
         );
-        let format = Format::default().with_extra_bytes(7);
-        let row = Row::new(&Choice::All, false, &header(), &format, &extras).unwrap();
-        let heading = row.heading();
+        let (heading, line) = written(&bytes, Some("all"), false, false).unwrap();
         let distinct: HashSet<&str> = heading.split(',').collect();
-        assert_eq!(distinct.len(), row.columns.len());
-        let named = Choice::new(Some("intensity,intensity_2,a_2")).unwrap();
-        let row = Row::new(&named, false, &header(), &format, &extras).unwrap();
-        assert_eq!(row.heading(), "intensity,intensity_2,a_2");
+        assert_eq!(distinct.len(), line.split(',').count());
+        assert_eq!(
+            written(&bytes, Some("intensity,intensity_2,a_2"), false, false),
+            Ok(("intensity,intensity_2,a_2".into(), "0,1,3\n".into()))
+        );
+    }
+
+    #[test]
+    fn why_there_are_no_attributes() {
+        let point = Point {
+            extra_bytes: &[1],
+            ..Point::default()
+        };
+        let mut array = description(1, 0, "a", 0.0, 0.0);
+        array[2] = 11;
+        for (descriptors, words) in [
+            (&array[..], "a data type above 10"),
+            (&array[1..], "is not a multiple of 192"),
+            (
+                &description(3, 0, "a", 0.0, 0.0),
+                "more bytes than a point record has",
+            ),
+        ] {
+            let bytes = file(0, descriptors, point);
+            let refused = written(&bytes, Some("reflectance"), false, false).unwrap_err();
+            assert!(
+                refused.contains("no field 'reflectance'; there are x, y")
+                    && refused.contains("; and in this file no attributes: ")
+                    && refused.contains(words),
+                "{refused}"
+            );
+            // The bytes are there all the same.
+            let all = written(&bytes, Some("all"), false, false).unwrap();
+            assert!(
+                all.0.ends_with(",extra") && all.1.ends_with(",01\n"),
+                "{all:?}"
+            );
+        }
     }
 
     #[test]

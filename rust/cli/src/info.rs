@@ -2,26 +2,32 @@
 
 use super::{
     args::Words,
+    extra::{self, Extras},
     input::{Files, Name},
     json::{self, Object},
     known,
-    output::Output,
+    output::{refusal_object, Output},
     show::{counted, float, floats, grouped, plain, plain_or_none},
     Command, Failure, Status,
 };
-use inscjarol::{File, Part, PartKind, Vlr};
+use inscjarol::{Attribute, File, Part, PartKind, Vlr};
 
 pub(crate) const COMMAND: Command = Command {
     name: "info",
     operands: "FILE..",
     count: (1, usize::MAX),
-    summary: "show the header, the VLRs, the EVLRs and the waveform packets in readable form",
+    summary: "show header, attributes, VLRs, EVLRs and waveform packets in readable form",
     options: &[],
     help: "\
 Shows what the header says: version, software, date, point format, counts, scale, offset and bounds. Counts by return
 and bounds are the header's word, not worked out from the points. Then come the VLRs and EVLRs, and the waveform packets
 where they are a record of the file, each with its user id, record id, description, length and first byte, and what it
 is where that is known; and the gaps, which are bytes that belong to no part.
+
+Before them come the attributes that the extra bytes of every point hold: name, type, scale and offset where they are
+said to count, first byte in a point, and description. They are described by the first VLR of LASF_Spec with record id
+4; an EVLR is not looked at. Where one of its descriptors is broken, the points have no attributes by name, and it is
+said why; their bytes are there all the same, as the field 'extra' of 'inscjarol points'.
 
 Each file stands under its name. Of a folder the .las files are shown, in the order of their names.
 
@@ -177,6 +183,7 @@ fn for_people(file: &File<'_>, out: &mut Output) -> Result<(), Failure> {
         say("waveform data", format!("from byte {start}"))?;
     }
 
+    attributes_for_people(file, out)?;
     for (kind, heading) in [
         (PartKind::Vlr, "VLRs"),
         (PartKind::Evlr, "EVLRs"),
@@ -211,6 +218,33 @@ fn for_people(file: &File<'_>, out: &mut Output) -> Result<(), Failure> {
             counted(gap.len, "byte"),
             gap.start
         ))?;
+    }
+    Ok(())
+}
+
+/// The attributes, or why there are none; nothing where the points have no extra bytes.
+fn attributes_for_people(file: &File<'_>, out: &mut Output) -> Result<(), Failure> {
+    let extras = Extras::of(file);
+    if let Some(refusal) = &extras.refusal {
+        return out.line(&format!("  {:<22}none: {refusal}", "attributes"));
+    }
+    if extras.attributes.is_empty() {
+        return Ok(());
+    }
+    let count = extras.attributes.len() as u64;
+    out.line(&format!("  {:<22}{}", "attributes", grouped(count)))?;
+    for (number, attribute) in (1_u64..).zip(&extras.attributes) {
+        let mut line = format!(
+            "  {number:>4}  {}, {}, from byte {} of a point",
+            plain_or_none(&attribute.name()),
+            extra::words(attribute),
+            attribute.start(),
+        );
+        let about = attribute.descriptor().about();
+        if !about.is_empty() {
+            line.push_str(&format!(", \"{}\"", plain(&about)));
+        }
+        out.line(&line)?;
     }
     Ok(())
 }
@@ -257,8 +291,27 @@ fn records(records: &[Placed<'_>]) -> Vec<String> {
     records.iter().map(record).collect()
 }
 
+/// An attribute as JSON.
+fn attribute(attribute: &Attribute<'_>) -> String {
+    let descriptor = attribute.descriptor();
+    let float_or_null =
+        |number: Option<f64>| number.map_or_else(|| String::from("null"), json::float);
+    let mut object = Object::new();
+    object
+        .text("name", &attribute.name())
+        .text("description", &descriptor.about())
+        .number("data_type", attribute.data_type().number())
+        .text("type", &attribute.data_type().to_string())
+        .number("start", attribute.start() as u64)
+        .number("length", attribute.data_type().size() as u64)
+        .raw("scale", float_or_null(descriptor.scale()))
+        .raw("offset", float_or_null(descriptor.offset()));
+    object.finish()
+}
+
 fn for_programs(name: &Name, file: &File<'_>) -> String {
     let header = file.header();
+    let extras = Extras::of(file);
     let gaps = file
         .parts()
         .filter(|part| part.kind == PartKind::Gap)
@@ -300,6 +353,11 @@ fn for_programs(name: &Name, file: &File<'_>) -> String {
     match header.start_of_waveform_data_packet_record {
         Some(start) => object.number("waveform_start", start),
         None => object.raw("waveform_start", "null"),
+    };
+    object.list("attributes", extras.attributes.iter().map(attribute));
+    match &extras.refusal {
+        Some(refusal) => object.object("attributes_refused", refusal_object(refusal)),
+        None => object.raw("attributes_refused", "null"),
     };
     object
         .list("vlrs", records(&placed(file, PartKind::Vlr)))

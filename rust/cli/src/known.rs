@@ -1,6 +1,5 @@
 //! What the standard says of numbers and records in a header.
 
-use super::{extra, show::float};
 use inscjarol::{text, Vlr};
 
 /// The bits of global encoding that the standard names, in words.
@@ -81,7 +80,8 @@ pub(crate) fn meaning(vlr: &Vlr<'_>) -> Option<String> {
         ("LASF_Projection", 34737) => "texts of the GeoTIFF keys",
         ("LASF_Spec", 0) => "names of the classes",
         ("LASF_Spec", 3) => return Some(described(vlr.data)),
-        ("LASF_Spec", 4) => return Some(extra_bytes(vlr)),
+        ("LASF_Spec", 4) if vlr.extended => "what the extra bytes are, which only a VLR can say",
+        ("LASF_Spec", 4) => "what the extra bytes are",
         ("LASF_Spec", 7) => "superseded",
         ("LASF_Spec", 100..=354) => "description of a wave packet",
         ("LASF_Spec", 65535) => "waveform data",
@@ -143,31 +143,6 @@ fn geo_keys(data: &[u8]) -> String {
         words.push_str(&format!(", {} EPSG:{}", what.0, what.1));
     }
     words
-}
-
-/// Extra bytes: their names and kinds.
-fn extra_bytes(vlr: &Vlr<'_>) -> String {
-    let fields: Vec<String> = extra::described_by(vlr.data)
-        .iter()
-        .map(|field| {
-            let mut words = format!("{} ({}", field.name, field.kind.words());
-            if let Some(scale) = field.scale {
-                words.push_str(&format!(", steps of {}", float(scale)));
-            }
-            if let Some(offset) = field.offset {
-                words.push_str(&format!(", from {}", float(offset)));
-            }
-            words.push(')');
-            if !field.about.is_empty() {
-                words.push_str(&format!(" \"{}\"", field.about));
-            }
-            words
-        })
-        .collect();
-    match fields.is_empty() {
-        true => String::from("what the extra bytes are"),
-        false => format!("extra bytes: {}", fields.join(", ")),
-    }
 }
 
 #[cfg(test)]

@@ -3,14 +3,14 @@
 use super::{
     args::{Opt, Words},
     columns::{Columns, STRETCH},
-    extra,
+    extra::Extras,
     fields::{Choice, Row},
     input::{self, Input, Name},
     output::Output,
     progress::Progress,
     Command, Failure, Status,
 };
-use inscjarol::{File, Point};
+use inscjarol::{File, Kind, Point};
 
 pub(crate) const COMMAND: Command = Command {
     name: "points",
@@ -48,8 +48,9 @@ that reads back.
 
 Fields, in letters of either size:
 {fields}
-and the extra bytes by the names that the file gives them; a name that is there already gets a number at its end, as in
-intensity_2.
+and the attributes that the extra bytes hold, by the names that the file gives them; a name that is there already gets a
+number at its end, as in intensity_2. 'inscjarol info' lists them. They are described by the first VLR of LASF_Spec with
+record id 4, never by an EVLR, and where one of its descriptors is broken, there are no attributes, and it is told why.
 
 In formats 0 to 5 overlap is read from the class: 12, or 28, which the standard does not count.
 
@@ -101,9 +102,13 @@ impl Asked {
 }
 
 fn write(asked: &Asked, name: &Name, file: &File<'_>, out: &mut Output) -> Result<Status, Failure> {
-    let (header, format) = (file.header(), file.format());
-    let row = Row::new(&asked.choice, asked.raw, header, &format, &extra::of(file));
-    let row = row.map_err(Failure::Usage)?;
+    let extras = Extras::of(file);
+    let row = Row::new(&asked.choice, asked.raw, file, &extras).map_err(Failure::Usage)?;
+    // Who wants all fields is told why some are missing.
+    let broken = (extras.refusal.as_ref()).filter(|refusal| refusal.kind() != Kind::NoDescriptors);
+    if let (Choice::All, Some(refusal)) = (&asked.choice, broken) {
+        out.tell(&format!("{name}: no attributes: {refusal}"));
+    }
     let total = file
         .point_count()
         .saturating_sub(asked.skip)
@@ -118,6 +123,7 @@ fn write(asked: &Asked, name: &Name, file: &File<'_>, out: &mut Output) -> Resul
         out,
         gathered: Vec::with_capacity(GATHERED.saturating_mul(2)),
         progress: Progress::of_output(format!("points of {name}"), total),
+        skipped: asked.skip,
         done: 0,
     };
     match columns {
@@ -130,7 +136,7 @@ fn write(asked: &Asked, name: &Name, file: &File<'_>, out: &mut Output) -> Resul
 fn by_walking(
     file: &File<'_>,
     (skip, total): (u64, u64),
-    lines: &mut Lines<'_>,
+    lines: &mut Lines<'_, '_>,
 ) -> Result<Status, Failure> {
     let mut points = file.points();
     if let Some(last) = skip.checked_sub(1) {
@@ -153,7 +159,7 @@ fn by_columns(
     name: &Name,
     file: &File<'_>,
     (skip, total): (u64, u64),
-    lines: &mut Lines<'_>,
+    lines: &mut Lines<'_, '_>,
 ) -> Result<Status, Failure> {
     let end = skip.saturating_add(total);
     let mut done = skip;
@@ -174,23 +180,26 @@ fn by_columns(
 }
 
 /// The lines of points, gathered before they are written.
-struct Lines<'a> {
-    row: Row,
+struct Lines<'a, 'f> {
+    row: Row<'f>,
     out: &'a mut Output,
     gathered: Vec<u8>,
     progress: Option<Progress>,
+    /// How many points of the file come before them.
+    skipped: u64,
     /// How many points they are by now.
     done: u64,
 }
 
-impl Lines<'_> {
+impl Lines<'_, '_> {
     #[inline]
     fn point(&mut self, point: &Point<'_>) -> Result<(), Failure> {
-        match self.out.json {
-            true => self.row.json(point, &mut self.gathered),
-            false => self.row.csv(point, &mut self.gathered),
-        }
         self.done = self.done.saturating_add(1);
+        let number = self.skipped.saturating_add(self.done);
+        match self.out.json {
+            true => self.row.json(number, point, &mut self.gathered),
+            false => self.row.csv(number, point, &mut self.gathered),
+        }
         match self.gathered.len() {
             GATHERED.. => self.let_go(),
             _ => Ok(()),

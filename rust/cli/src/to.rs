@@ -2,6 +2,7 @@
 
 use super::{
     args::Words,
+    extra::Extras,
     fields::{Choice, Row},
     json::Object,
     output::refusal_object,
@@ -189,9 +190,9 @@ fn place(file: &File<'_>, number: u64) -> [Option<String>; 3] {
         let before = usize::try_from(number.checked_sub(1)?).ok()?;
         let point = file.points().nth(before)?;
         let choice = Choice::Named(["x", "y", "z"].map(String::from).to_vec());
-        let mut row = Row::new(&choice, false, file.header(), &file.format(), &[]).ok()?;
+        let mut row = Row::new(&choice, false, file, &Extras::none()).ok()?;
         let mut line = Vec::new();
-        row.csv(&point, &mut line);
+        row.csv(number, &point, &mut line);
         String::from_utf8(line).ok()
     };
     let line = line().unwrap_or_default();

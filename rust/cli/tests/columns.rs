@@ -116,3 +116,23 @@ fn no_points_and_many_records() {
     assert_eq!(written(&[], "x,z", &path), written(&[], "x,z", &few));
     same(&path, &[]);
 }
+
+#[test]
+fn attributes_both_ways() {
+    // They need no point, so that columns and attributes are written without walking.
+    for options in [
+        &[][..],
+        &["--raw"],
+        &["--json"],
+        &["--skip", "100", "--limit", "4200"],
+        &["--skip", "2990"],
+    ] {
+        for fields in ["x,reflectance", "reflectance", "reflectance,gps_time,z"] {
+            let out = written(options, fields, &sample());
+            assert!(
+                out == walked(options, fields, &sample()),
+                "{fields} {options:?}"
+            );
+        }
+    }
+}

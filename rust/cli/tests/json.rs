@@ -5,7 +5,7 @@
 mod common;
 
 use common::{plain, rich, sample, two_points, waveforms, Folder};
-use inscjarol::{Header, Version};
+use inscjarol::{DataType, Descriptor, Header, NewFile, Version};
 use std::{
     collections::{BTreeMap, BTreeSet},
     fs,
@@ -30,7 +30,7 @@ fn told() -> BTreeMap<String, Fields> {
         match line.strip_prefix("  ") {
             None => heading = line.to_string(),
             Some(line) => {
-                let (name, rest) = line.split_at(24);
+                let (name, rest) = line.split_at(26);
                 let types = rest.get(..16).unwrap_or(rest).trim().split(" or ");
                 let field = (name.trim().to_string(), types.map(String::from).collect());
                 let fields: &mut Fields = objects.entry(heading.clone()).or_default();
@@ -125,6 +125,9 @@ fn every_field_that_is_printed_is_told_and_every_one_that_is_told_is_printed() {
     new.point_data_record_length = 30;
     let mut half_zero = rich(6, 0);
     half_zero[243..247].copy_from_slice(&[0; 4]);
+    let from_a_hundred = Descriptor::new("depth", DataType::F32).with_offset(100.0);
+    let attributes = NewFile::new(0).attributes(&[from_a_hundred]).to_vec();
+    let attributes = attributes.unwrap();
     let files = [
         folder.put("odd.las", &odd),
         folder.put("old.las", &rich(0, 0)),
@@ -134,6 +137,7 @@ fn every_field_that_is_printed_is_told_and_every_one_that_is_told_is_printed() {
         folder.put("waveform.las", &waveforms()),
         folder.put("packets.las", &odd_packets),
         folder.put("new.las", &new.to_vec(&[]).unwrap()),
+        folder.put("attributes.las", &attributes),
         folder.put("cut.las", &plain(3)[..250]),
         folder.put("sample.las", &fs::read(sample()).unwrap()),
         folder.join("missing.las"),

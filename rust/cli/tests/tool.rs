@@ -925,7 +925,179 @@ fn numbers_of_extra_bytes() {
     let (out, _, _) = on(&["points", "--json", "--fields", "single,double"], &path);
     assert_eq!(out, "{\"single\":0.1,\"double\":1e300}\n");
     let (out, _, _) = on(&["info"], &path);
-    assert!(out.contains("much (u32, steps of 0.125)"));
+    assert!(
+        out.contains("  attributes            4\n     1  single, f32, from byte 20 of a point\n"),
+        "{out}"
+    );
+    assert!(out.contains("     3  much, u32, scale 0.125, from byte 32 of a point\n"));
+}
+
+#[test]
+fn attributes_are_listed() {
+    let folder = Folder::new("attributes");
+    let fields = [
+        ("depth", 4, 0b1_1000, 0.5),
+        ("", 0, 3, 0.5),
+        ("a\x1b[2Jb", 9, 0b1_0000, 0.0),
+    ];
+    let mut bytes = described(&fields, &[0; 10]);
+    let first = 375 + 54;
+    bytes[first + 136..first + 144].copy_from_slice(&(-2.5_f64).to_le_bytes());
+    bytes[first + 160..first + 173].copy_from_slice(b"below \x1b water");
+    bytes[first + 2 * 192 + 136..][..8].copy_from_slice(&f64::NAN.to_le_bytes());
+    let path = folder.put("attributes.las", &bytes);
+    let (out, err, status) = on(&["info"], &path);
+    assert_eq!((err.as_str(), status), ("", Some(0)));
+    let listed = "  attributes            3\n\
+        \x20    1  depth, i16, scale 0.5, offset -2.5, from byte 20 of a point, \"below \u{fffd} water\"\n\
+        \x20    2  (none), 3 bytes, from byte 22 of a point\n\
+        \x20    3  a\u{fffd}[2Jb, f32, offset NaN, from byte 25 of a point\n\
+        \x20 VLRs                  1\n\
+        \x20    1  LASF_Spec 4, 576 bytes of data, from byte 375\n\
+        \x20       what the extra bytes are\n";
+    assert!(out.contains(listed), "{out}");
+    let (out, _, _) = on(&["info", "--json"], &path);
+    let listed = "\"attributes\":[\
+        {\"name\":\"depth\",\"description\":\"below \\u001b water\",\"data_type\":4,\"type\":\"i16\",\"start\":20,\"length\":2,\"scale\":0.5,\"offset\":-2.5},\
+        {\"name\":\"\",\"description\":\"\",\"data_type\":0,\"type\":\"3 bytes\",\"start\":22,\"length\":3,\"scale\":null,\"offset\":null},\
+        {\"name\":\"a\\u001b[2Jb\",\"description\":\"\",\"data_type\":9,\"type\":\"f32\",\"start\":25,\"length\":4,\"scale\":null,\"offset\":null}\
+        ],\"attributes_refused\":null,";
+    assert!(out.contains(listed), "{out}");
+    // The last extra byte is of none of them.
+    let (out, _, _) = on(&["points", "--fields", "all"], &path);
+    let heading = "point_source_id,extra,depth,unnamed,a\u{fffd}[2Jb\n";
+    assert!(out.contains(heading), "{out}");
+    assert!(
+        out.ends_with(",00000000000000000000,-2.5,000000,NaN\n"),
+        "{out}"
+    );
+}
+
+#[test]
+fn broken_descriptors() {
+    let folder = Folder::new("broken-descriptors");
+    let good = ("good", 1, 0, 0.0);
+    let put = |name: &str, fields: &[(&str, u8, u8, f64)], extra: &[u8]| {
+        folder.put(name, &described(fields, extra))
+    };
+    // A VLR that is cut by a byte, which is a gap then.
+    let mut cut = described(&[good], &[7]);
+    cut[375 + 20..375 + 22].copy_from_slice(&191_u16.to_le_bytes());
+    for (path, number, words) in [
+        (
+            folder.put("cut.las", &cut),
+            38,
+            "its data is not a multiple of 192 bytes",
+        ),
+        (
+            put("type.las", &[good, ("array", 11, 0, 0.0)], &[7, 7, 7]),
+            39,
+            "has a data type above 10",
+        ),
+        (
+            put("sizes.las", &[good, good], &[7]),
+            40,
+            "speak of more bytes than a point record has",
+        ),
+    ] {
+        let (out, err, status) = on(&["info"], &path);
+        assert_eq!((err.as_str(), status), ("", Some(0)));
+        let line = out
+            .lines()
+            .find(|line| line.starts_with("  attributes            none: "));
+        assert!(line.unwrap().contains(words), "{out}");
+        let (out, _, status) = on(&["info", "--json"], &path);
+        let told =
+            format!("\"attributes\":[],\"attributes_refused\":{{\"number\":{number},\"name\":");
+        assert!(out.contains(&told) && out.contains(words), "{out}");
+        assert_eq!(status, Some(0));
+
+        // No name is known, and it is said why.
+        let (out, err, status) = on(&["points", "--fields", "x,good"], &path);
+        assert_eq!((out.as_str(), status), ("", Some(2)));
+        assert!(
+            err.contains("there is no field 'good'; ")
+                && err.contains("; and in this file no attributes: "),
+            "{err}"
+        );
+        assert!(err.contains(words), "{err}");
+        // All that there is has the bytes without names.
+        for json in [&[][..], &["--json"]] {
+            let (out, err, status) = on(&[&["points", "--fields", "all"], json].concat(), &path);
+            assert_eq!(status, Some(0));
+            assert!(
+                err.contains("no attributes: ") && err.contains(words),
+                "{err}"
+            );
+            assert!(
+                out.contains("extra") && out.contains("07") && !out.contains("good"),
+                "{out}"
+            );
+        }
+        // Who asks for other fields is told nothing.
+        let (out, err, status) = on(&["points", "--fields", "intensity"], &path);
+        assert_eq!(
+            (out.as_str(), err.as_str(), status),
+            ("intensity\n77\n", "", Some(0))
+        );
+    }
+}
+
+#[test]
+fn extra_bytes_that_no_vlr_describes() {
+    let folder = Folder::new("undescribed");
+    // With extra bytes that is news, without them it is none.
+    let bytes = folder.put("bytes.las", &rich(6, 2));
+    let (out, _, _) = on(&["info"], &bytes);
+    assert!(
+        out.contains("  attributes            none: no VLR describes the extra bytes"),
+        "{out}"
+    );
+    let (out, _, _) = on(&["info", "--json"], &bytes);
+    assert!(
+        out.contains("\"attributes\":[],\"attributes_refused\":{\"number\":37,"),
+        "{out}"
+    );
+    let (_, err, status) = on(&["points", "--fields", "all"], &bytes);
+    assert_eq!((err.as_str(), status), ("", Some(0)));
+    let (_, err, _) = on(&["points", "--fields", "reflectance"], &bytes);
+    assert!(
+        err.contains("no attributes: no VLR describes the extra bytes"),
+        "{err}"
+    );
+
+    let none = folder.put("none.las", &rich(6, 0));
+    let (out, _, _) = on(&["info"], &none);
+    assert!(!out.contains("attributes"), "{out}");
+    let (out, _, _) = on(&["info", "--json"], &none);
+    assert!(
+        out.contains("\"attributes\":[],\"attributes_refused\":null,"),
+        "{out}"
+    );
+    let (_, err, _) = on(&["points", "--fields", "reflectance"], &none);
+    assert!(!err.contains("attributes"), "{err}");
+
+    // In an EVLR descriptors do not count: it is shown, and its names are not known.
+    let mut bytes = described(&[("good", 1, 0, 0.0)], &[7]);
+    bytes[375 + 18] = 5;
+    let evlr = Vlr::new(true, "LASF_Spec", 4, "", &bytes[429..429 + 192])
+        .to_vec()
+        .unwrap();
+    let start = bytes.len() as u64;
+    bytes[235..243].copy_from_slice(&start.to_le_bytes());
+    bytes[243] = 1;
+    bytes.extend(evlr);
+    let path = folder.put("evlr.las", &bytes);
+    let (out, _, _) = on(&["info"], &path);
+    assert!(
+        out.contains("  attributes            none: no VLR describes"),
+        "{out}"
+    );
+    assert!(
+        out.contains("what the extra bytes are, which only a VLR can say"),
+        "{out}"
+    );
+    assert_eq!(on(&["points", "--fields", "good"], &path).2, Some(2));
 }
 
 #[test]
