@@ -1,0 +1,4 @@
+-- definitions
+pub mod Layout
+pub mod Sizes
+pub mod Descriptor
