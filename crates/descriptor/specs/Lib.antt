@@ -2,3 +2,5 @@
 pub mod Layout
 pub mod Sizes
 pub mod Descriptor
+-- laws
+pub mod Laws

@@ -2,7 +2,11 @@
 // user id LASF_Spec and record 4. LAS 1.4 R15, "Extra Bytes"; document 02, No. 8. Every byte is kept, deprecated fields too, and
 // numbers that the standard reads by the type (no data, min, max, scale, offset) are their bits as stored.
 ghost use mathlib.Core.Path.{_≡_};
+ghost use Prim.Native.Nat.{_≤_};
+ghost use lib.ListN.{length};
+ghost use Rattle.descriptor.specs.Layout.{descriptorSize};
 ghost use Rattle.descriptor.specs.Sizes.{sizeOf};
+ghost use Rattle.descriptor.specs.Descriptor.{descriptorOf, noDescriptor, describedOf, readOf};
 use refusal::Refusal;
 
 pub struct Descriptor {
@@ -34,6 +38,88 @@ pub enum Described {
 pub struct DescriptorRead {
     pub answer: Described,
     pub descriptor: Descriptor,
+}
+
+impl Descriptor {
+    // A descriptor of zeros.
+    pub fn default() -> Descriptor
+        ensures { λ r. ⌜ r ≡ noDescriptor ⌝ }
+    {
+        Descriptor {
+            reserved: 0,
+            data_type: 0,
+            options: 0,
+            name: [0; 32],
+            unused: 0,
+            no_data: 0,
+            deprecated1: [0; 16],
+            min: 0,
+            deprecated2: [0; 16],
+            max: 0,
+            deprecated3: [0; 16],
+            scale: 0,
+            deprecated4: [0; 16],
+            offset: 0,
+            deprecated5: [0; 16],
+            description: [0; 32],
+        }
+    }
+
+    // Reads the descriptor at the start of `s`, and looks at nothing past its 192 bytes; refuses with 1 where they are not all
+    // there, then with 39 where the type is above 10.
+    pub fn read_from(s: &[u8]) -> DescriptorRead
+        ensures { λ r. ⌜ r ≡ readOf (now (s .entry)) ⌝ }
+    {
+        let answer = judge(s);
+        match answer {
+            Described::Whole => DescriptorRead {
+                answer,
+                descriptor: contents(s),
+            },
+            Described::Refused(_) => DescriptorRead {
+                answer,
+                descriptor: Descriptor::default(),
+            },
+        }
+    }
+}
+
+// Whether the bytes at the start of `s` are a descriptor.
+fn judge(s: &[u8]) -> Described
+    ensures { λ r. ⌜ r ≡ describedOf (now (s .entry)) ⌝ }
+{
+    if s.len() < 192 {
+        return Described::Refused(Refusal::Short(192));
+    }
+    if le::u8_at(s, 2) > 10 {
+        return Described::Refused(Refusal::DataType);
+    }
+    Described::Whole
+}
+
+// The descriptor at the start of `s`, each field from its place.
+fn contents(s: &[u8]) -> Descriptor
+    requires { ⌜ descriptorSize ≤ length (now s) ⌝ }
+    ensures { λ r. ⌜ r ≡ descriptorOf (now (s .entry)) ⌝ }
+{
+    Descriptor {
+        reserved: le::u16_at(s, 0),
+        data_type: le::u8_at(s, 2),
+        options: le::u8_at(s, 3),
+        name: store::bytes32(s, 4),
+        unused: le::u32_at(s, 36),
+        no_data: le::u64_at(s, 40),
+        deprecated1: store::bytes16(s, 48),
+        min: le::u64_at(s, 64),
+        deprecated2: store::bytes16(s, 72),
+        max: le::u64_at(s, 88),
+        deprecated3: store::bytes16(s, 96),
+        scale: le::u64_at(s, 112),
+        deprecated4: store::bytes16(s, 120),
+        offset: le::u64_at(s, 136),
+        deprecated5: store::bytes16(s, 144),
+        description: store::bytes32(s, 160),
+    }
 }
 
 // The bytes of a value of types 1 to 10: u8, i8, u16, i16, u32, i32, u64, i64, f32, f64.
