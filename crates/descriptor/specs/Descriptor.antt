@@ -119,19 +119,19 @@ descriptorBytes v = joined (fieldBytes v) fields
 unfoldable pub writtenOf : Descriptor → List ℕ → Wrote × List ℕ
 writtenOf v d = cond (ltb 10 (v .«data_type»)) (wrote.Refused refusal.DataType, d) (frontOf (descriptorBytes v) d)
 
--- what the types say of a descriptor: numbers in their widths, arrays of their lengths
+-- what the types say of a descriptor: arrays of their lengths, numbers in their widths
+abbrev pub Texts : Descriptor → Type 0
+Texts v =
+    (length (v .name) ≡ width Name) × (length (v .deprecated1) ≡ width Deprecated1) × (length (v .deprecated2) ≡ width Deprecated2)
+    × (length (v .deprecated3) ≡ width Deprecated3) × (length (v .deprecated4) ≡ width Deprecated4)
+    × (length (v .deprecated5) ≡ width Deprecated5) × (length (v .description) ≡ width Description)
+
 pub record Typed (v : Descriptor) : Type 0 where
+  pub texts : Texts v
   pub reserved : v .reserved < 256 ^ width Reserved
-  pub name : length (v .name) ≡ width Name
   pub unused : v .unused < 256 ^ width Unused
   pub no-data : v .«no_data» < 256 ^ width NoData
-  pub deprecated1 : length (v .deprecated1) ≡ width Deprecated1
   pub min : v .min < 256 ^ width Min
-  pub deprecated2 : length (v .deprecated2) ≡ width Deprecated2
   pub max : v .max < 256 ^ width Max
-  pub deprecated3 : length (v .deprecated3) ≡ width Deprecated3
   pub scale : v .scale < 256 ^ width Scale
-  pub deprecated4 : length (v .deprecated4) ≡ width Deprecated4
   pub offset : v .offset < 256 ^ width Offset
-  pub deprecated5 : length (v .deprecated5) ≡ width Deprecated5
-  pub description : length (v .description) ≡ width Description

@@ -2,18 +2,26 @@
 use Prim.Native.Nat.{ℕ, _≤_, _<_}
 use mathlib.Core.Path.{_≡_, refl, ap, sym, _∙_}
 use mathlib.Core.Bool.{Bool, true, false, cond}
-use mathlib.Core.List.{List}
+use mathlib.Core.List.{List, _++_}
 use native.Mathlib.Omega.{arith}
 use borrow.Author.Tests.{lt-ltb, le-ltb, ltb-true, ltb-false}
 use lib.Dec.{ltb}
-use lib.ListN.{length}
+use lib.ListN.{length, drop}
+use lib.Seq.{sets}
 use Rattle.refusal.specs.declared.Refusal.{Refusal}
 use Rattle.refusal.specs.declared.Refusal.the-variants as refusal
+use Rattle.lent.specs.declared.Wrote.the-variants as wrote
+use Rattle.lent.specs.Front.{frontOf}
+use Rattle.lent.specs.Laws.{front, no-front, whole}
+use Rattle.fields.specs.Table.{none, _&_, Stored}
+use Rattle.fields.specs.Laws.{Wide, length-joined, stored-joined}
+use Rattle.descriptor.specs.declared.Descriptor.{Descriptor}
 use Rattle.descriptor.specs.declared.Described.{Described}
 use Rattle.descriptor.specs.declared.Described.the-variants.{Whole, Refused}
 use Rattle.descriptor.specs.declared.DescriptorRead.{DescriptorRead}
-use Rattle.descriptor.specs.Layout.{descriptorSize}
-use Rattle.descriptor.specs.Descriptor.{typeIn, optionsIn, nameIn, descriptorOf, describedOf, readOf}
+use Rattle.descriptor.specs.Layout.{fields, width, place, descriptorSize}
+use Rattle.descriptor.specs.Places.{places-follow, all-bytes}
+use Rattle.descriptor.specs.Descriptor.{typeIn, optionsIn, nameIn, descriptorOf, describedOf, readOf, fieldBytes, descriptorBytes, writtenOf, Texts}
 
 -- what is answered of too few bytes, of a type above 10, and else
 module _ (s : List ℕ) where
@@ -66,3 +74,43 @@ module _ (s : List ℕ) (p : describedOf s ≡ Whole) where
   pub name-read : readOf s .descriptor .name ≡ nameIn s
   unfolding descriptorOf
   name-read = rw read-is
+
+-- a descriptor whose arrays have their lengths has fields of the table's widths, and so 192 bytes
+module _ (v : Descriptor) (t : Texts v) where
+  pub fields-wide : Wide width (fieldBytes v) fields
+  fields-wide =
+      refl & refl & refl & t .0 & refl & refl & t .1 & refl & t .2 & refl & t .3 & refl & t .4 & refl & t .5 & t .6 & none
+
+  pub length-descriptor : length (descriptorBytes v) ≡ descriptorSize
+  unfolding descriptorBytes
+  length-descriptor = length-joined width (fieldBytes v) fields fields-wide ∙ all-bytes
+
+-- its fields stored each at its place are its bytes, stored at the front
+pub stored-fields : (v : Descriptor) {d r : List ℕ} → Stored width place (fieldBytes v) d fields r → r ≡ sets d 0 (descriptorBytes v)
+unfolding descriptorBytes
+stored-fields v st = stored-joined width (fieldBytes v) place fields 0 places-follow st
+
+-- what a write answers of a type above 10, and of another
+module _ (v : Descriptor) (d : List ℕ) where
+  pub type-refused : 10 < v .«data_type» → writtenOf v d ≡ (wrote.Refused refusal.DataType, d)
+  unfolding writtenOf
+  type-refused h = rw (lt-ltb _ _ h)
+
+  pub type-taken : v .«data_type» ≤ 10 → writtenOf v d ≡ frontOf (descriptorBytes v) d
+  unfolding writtenOf
+  type-taken h = rw (le-ltb _ _ h)
+
+  -- and then where there is no room, and where there is
+  pub no-room : Texts v → v .«data_type» ≤ 10 → length d < descriptorSize → writtenOf v d ≡ (wrote.Refused (refusal.NoRoom descriptorSize), d)
+  no-room t h l =
+      let n = length-descriptor v t in
+      type-taken h ∙ no-front (descriptorBytes v) d (omega arith) ∙ rw n
+
+  pub room : Texts v → v .«data_type» ≤ 10 → descriptorSize ≤ length d → writtenOf v d ≡ (wrote.Bytes descriptorSize, descriptorBytes v ++ drop descriptorSize d)
+  room t h l =
+      let n = length-descriptor v t in
+      type-taken h ∙ front (descriptorBytes v) d (omega arith) ∙ rw n
+
+  -- which is what the fields leave, stored
+  pub stored-is : {r : List ℕ} → Texts v → descriptorSize ≤ length d → Stored width place (fieldBytes v) d fields r → r ≡ descriptorBytes v ++ drop descriptorSize d
+  stored-is t l st = stored-fields v st ∙ whole d (descriptorBytes v) descriptorSize (length-descriptor v t) l

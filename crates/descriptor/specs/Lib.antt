@@ -3,4 +3,5 @@ pub mod Layout
 pub mod Sizes
 pub mod Descriptor
 -- laws
+pub mod Places
 pub mod Laws

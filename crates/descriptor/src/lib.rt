@@ -4,9 +4,11 @@
 ghost use mathlib.Core.Path.{_≡_};
 ghost use Prim.Native.Nat.{_≤_};
 ghost use lib.ListN.{length};
-ghost use Rattle.descriptor.specs.Layout.{descriptorSize};
+ghost use Rattle.fields.specs.Table.{Stored};
+ghost use Rattle.descriptor.specs.Layout.{fields, width, place, descriptorSize};
 ghost use Rattle.descriptor.specs.Sizes.{sizeOf};
-ghost use Rattle.descriptor.specs.Descriptor.{descriptorOf, noDescriptor, describedOf, readOf};
+ghost use Rattle.descriptor.specs.Descriptor.{descriptorOf, noDescriptor, describedOf, readOf, fieldBytes, writtenOf};
+use lent::Wrote;
 use refusal::Refusal;
 
 pub struct Descriptor {
@@ -82,6 +84,21 @@ impl Descriptor {
             },
         }
     }
+
+    // Writes the descriptor's 192 bytes to the front of `dst`, answers their count and leaves what lies past them. Refuses with 39
+    // where the type is above 10, then with 22; a refusal changes nothing.
+    pub fn write_to(self, dst: &mut [u8]) -> Wrote
+        ensures { λ r. ⌜ (r, now (dst .exit)) ≡ writtenOf self (now (dst .entry)) ⌝ }
+    {
+        if self.data_type > 10 {
+            return Wrote::Refused(Refusal::DataType);
+        }
+        if dst.len() < 192 {
+            return Wrote::Refused(Refusal::NoRoom(192));
+        }
+        store_contents(self, dst);
+        Wrote::Bytes(192)
+    }
 }
 
 // Whether the bytes at the start of `s` are a descriptor.
@@ -120,6 +137,28 @@ fn contents(s: &[u8]) -> Descriptor
         deprecated5: store::bytes16(s, 144),
         description: store::bytes32(s, 160),
     }
+}
+
+// Stores each field at its place.
+fn store_contents(v: Descriptor, dst: &mut [u8])
+    ensures { λ _. ⌜ Stored width place (fieldBytes v) (now (dst .entry)) fields (now (dst .exit)) ⌝ }
+{
+    store::set_u16(dst, 0, v.reserved);
+    store::set_u8(dst, 2, v.data_type);
+    store::set_u8(dst, 3, v.options);
+    store::set_bytes(dst, 4, &v.name);
+    store::set_u32(dst, 36, v.unused);
+    store::set_u64(dst, 40, v.no_data);
+    store::set_bytes(dst, 48, &v.deprecated1);
+    store::set_u64(dst, 64, v.min);
+    store::set_bytes(dst, 72, &v.deprecated2);
+    store::set_u64(dst, 88, v.max);
+    store::set_bytes(dst, 96, &v.deprecated3);
+    store::set_u64(dst, 112, v.scale);
+    store::set_bytes(dst, 120, &v.deprecated4);
+    store::set_u64(dst, 136, v.offset);
+    store::set_bytes(dst, 144, &v.deprecated5);
+    store::set_bytes(dst, 160, &v.description);
 }
 
 // The bytes of a value of types 1 to 10: u8, i8, u16, i16, u32, i32, u64, i64, f32, f64.
