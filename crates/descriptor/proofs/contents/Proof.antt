@@ -1,5 +1,4 @@
 -- Long since a descriptor has 16 fields, each from a call of its own.
-use Prim.Native.Nat.{ℕ}
 use mathlib.Core.Path.{_∙_}
 use borrow.Author.Needs.{needs}
 use native.Mathlib.Omega.{arith}

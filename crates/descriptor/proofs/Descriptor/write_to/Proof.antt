@@ -5,7 +5,7 @@ use native.Mathlib.Omega.{arith}
 use borrow.Author.Needs.{needs}
 use Rattle.lent.specs.declared.Wrote.the-variants.{Bytes}
 use Rattle.descriptor.specs.Descriptor.{Texts}
-use Rattle.descriptor.specs.Laws.{type-refused, no-room, room, stored-is}
+use Rattle.descriptor.specs.Written.{type-refused, no-room, room, stored-is}
 use Rattle.descriptor.proofs.Descriptor.write_to.Statement.{statement}
 use Rattle.descriptor.proofs.Descriptor.write_to.Tie as tie
 
