@@ -46,6 +46,7 @@ void test_flags(void);
 void test_angles(void);
 void test_points(void);
 void test_vlrs(void);
+void test_descriptors(void);
 void test_headers(void);
 void test_files(void);
 void test_columns(void);

@@ -92,6 +92,7 @@ int main(int argc, char **argv) {
     test_angles();
     test_points();
     test_vlrs();
+    test_descriptors();
     test_headers();
     test_files();
     test_columns();

@@ -24,11 +24,12 @@
  *   whole degrees, in bits 0 to 7; both are in two's complement.
  *
  * Numbers. A point is LAS_POINT_NUMBERS numbers, a header LAS_HEADER_NUMBERS and three texts, the head of a VLR or EVLR
- * LAS_VLR_NUMBERS and two texts. A signed field stands in two's complement of its own width, as in
- * (int32_t)point[LAS_POINT_X], and a float as its bits, to be copied into a float or double by memcpy, so that every bit
- * pattern is kept. Of what may be missing one number says whether it is there. Read, what is missing is zeros; written, its
- * numbers are ignored, and of a number too wide for its field the low bits count, but for the length of a VLR's data, which
- * las_vlr_write refuses. Texts are bytes and need not end with 0.
+ * LAS_VLR_NUMBERS and two texts, a descriptor of extra bytes LAS_DESCRIPTOR_NUMBERS and three texts. A signed field stands in
+ * two's complement of its own width, as in (int32_t)point[LAS_POINT_X], and a float as its bits, to be copied into a float or
+ * double by memcpy, so that every bit pattern is kept. Of what may be missing one number says whether it is there. Read, what is
+ * missing is zeros; written, its numbers are ignored, and of a number too wide for its field the low bits count, but for the
+ * length of a VLR's data, which las_vlr_write refuses, and the type of a descriptor, which las_descriptor_write refuses. Texts are
+ * bytes and need not end with 0.
  *
  * A walker's place, a cursor, a sweep, a place among attributes and an attribute are numbers that the caller keeps from call to call.
  * Every number in them means something, so that one made by hand is taken too.
@@ -357,6 +358,41 @@ void las_vlr_stated(const uint8_t *s, size_t s_len, bool extended, uint64_t row[
 
 /* The default VLR: zeros, without data. */
 void las_vlr_default(uint64_t numbers[3], uint8_t user_id[16], uint8_t description[32]);
+
+/* ---- descriptors of extra bytes ---- */
+
+/* The places of a descriptor's numbers, the bytes of its texts, and its bytes in all. The VLR with user id LASF_Spec and record
+ * id 4 has one for each value that the extra bytes of a point hold. */
+enum {
+    LAS_DESCRIPTOR_RESERVED = 0,
+    LAS_DESCRIPTOR_DATA_TYPE = 1, /* 0 to 10: bytes of which nothing is said, u8, i8, u16, i16, u32, i32, u64, i64, f32, f64 */
+    LAS_DESCRIPTOR_OPTIONS = 2,   /* of type 0 the bytes of a value; else, from bit 0 up, whether no data, min, max, scale, offset count */
+    LAS_DESCRIPTOR_UNUSED = 3,
+    LAS_DESCRIPTOR_NO_DATA = 4, /* no data, min and max are bits that the type says how to read */
+    LAS_DESCRIPTOR_MIN = 5,
+    LAS_DESCRIPTOR_MAX = 6,
+    LAS_DESCRIPTOR_SCALE = 7, /* scale and offset are the bits of doubles */
+    LAS_DESCRIPTOR_OFFSET = 8,
+    LAS_DESCRIPTOR_NUMBERS = 9,
+    LAS_DESCRIPTOR_NAME_BYTES = 32,
+    LAS_DESCRIPTOR_DEPRECATED_BYTES = 80, /* the five deprecated fields of 16 bytes, one after the other */
+    LAS_DESCRIPTOR_DESCRIPTION_BYTES = 32,
+    LAS_DESCRIPTOR_BYTES = 192
+};
+
+/* The descriptor in the first LAS_DESCRIPTOR_BYTES of s, of which every byte is kept; the value is their count. Refuses with
+ * LAS_REFUSED_SHORT where they are not all there, then with LAS_REFUSED_DATA_TYPE where its type is above 10, and leaves numbers
+ * and texts. */
+void las_descriptor_read(const uint8_t *s, size_t s_len, uint64_t row[3], uint64_t numbers[9], uint8_t name[32],
+                         uint8_t deprecated[80], uint8_t description[32]);
+
+/* Writes a descriptor to the front of dst, and leaves what lies past it; the value is LAS_DESCRIPTOR_BYTES. Refuses with
+ * LAS_REFUSED_DATA_TYPE where its type is above 10, then with LAS_REFUSED_NO_ROOM, and leaves dst. */
+void las_descriptor_write(const uint64_t numbers[9], const uint8_t name[32], const uint8_t deprecated[80],
+                          const uint8_t description[32], uint8_t *dst, size_t dst_len, uint64_t row[3]);
+
+/* The bytes of a value of a type: of type 0 as many as the options say, whatever they are; of a type above 10 none. */
+uint64_t las_descriptor_size(uint8_t data_type, uint8_t options);
 
 /* ---- headers ---- */
 
