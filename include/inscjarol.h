@@ -648,8 +648,8 @@ enum {
 void las_attributes(const uint8_t *file, size_t file_len, uint64_t allowance, uint64_t attributes[5], uint64_t row[3]);
 
 /* Whether there is an attribute at the place: then its numbers and, as a span, where its descriptor is in the file, for
- * las_descriptor_read, are written, and the place moves on; else, after the last, and at a descriptor that is not all there or has a
- * type above 10, all stay as they are. */
+ * las_descriptor_read, are written, and the place moves on; else, after the last, and at a place made by hand whose descriptor is not all
+ * in the file or whose value is at 2^63 or beyond, all stay as they are. */
 bool las_attributes_next(const uint8_t *file, size_t file_len, uint64_t attributes[5], uint64_t attribute[5],
                          uint64_t span[2]);
 

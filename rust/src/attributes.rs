@@ -145,19 +145,28 @@ impl fmt::Display for DataType {
 ///
 /// Of a float that is a NaN it is promised that it is one, and not which: every bit is in [`Attribute::bits`] and [`Attribute::bytes`].
 #[derive(Clone, Copy, Debug, PartialEq)]
-#[allow(missing_docs)]
 pub enum Value<'a> {
-    /// Bytes of which nothing is said, as that part of the file.
+    /// Of [`DataType::Bytes`]: that part of the file.
     Bytes(&'a [u8]),
+    /// Of [`DataType::U8`].
     U8(u8),
+    /// Of [`DataType::I8`].
     I8(i8),
+    /// Of [`DataType::U16`].
     U16(u16),
+    /// Of [`DataType::I16`].
     I16(i16),
+    /// Of [`DataType::U32`].
     U32(u32),
+    /// Of [`DataType::I32`].
     I32(i32),
+    /// Of [`DataType::U64`].
     U64(u64),
+    /// Of [`DataType::I64`].
     I64(i64),
+    /// Of [`DataType::F32`].
     F32(f32),
+    /// Of [`DataType::F64`].
     F64(f64),
 }
 
