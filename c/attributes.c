@@ -227,9 +227,9 @@ static void test_refusals(const uint8_t *data) {
 /* Numbers that no call gave. */
 static void test_made_by_hand(const Made *made) {
     static const uint64_t wild[][LAS_ATTRIBUTE_NUMBERS] = {
-        {1, 1, UINT64_MAX, 1, 5},   {1, 8, UINT64_MAX - 3, 1, 5}, {1, 1, 0, UINT64_MAX, 5},
-        {1, UINT64_MAX, 0, 1, 5},   {99, ROOM + 1, 0, 0, 5},      {1, UINT64_MAX, UINT64_MAX, UINT64_MAX, 5},
-        {1, 1, ROOM, UINT64_MAX, 5}};
+        {1, 1, UINT64_MAX, 20, 5},  {1, 8, UINT64_MAX - 80, 20, 5}, {1, 1, 0, UINT64_MAX, 5}, {1, UINT64_MAX, 0, 20, 5},
+        {99, ROOM + 1, 0, 20, 5},   {1, 1, ROOM, 65535, 5},         {1, 1, 0, 19, 5},         {1, 1, 0, 65536, 5},
+        {1, UINT64_MAX, UINT64_MAX, UINT64_MAX, 5}};
     uint64_t row[3], span[2], left[1];
     fill_numbers(row, 3);
     fill_numbers(span, 2);
@@ -241,12 +241,17 @@ static void test_made_by_hand(const Made *made) {
         CHECK(told(row, LAS_REFUSED_INDEX, 5, 0) && left_numbers(left, 1));
     }
     /* the last byte of the file, and one past it */
-    uint64_t last[LAS_ATTRIBUTE_NUMBERS] = {1, 1, made->len - 1, 0, 1};
-    las_attribute_value(made->bytes, made->len, last, 1, span, row);
+    uint64_t last[LAS_ATTRIBUTE_NUMBERS] = {1, 1, made->len - 41, 20, UINT64_MAX};
+    las_attribute_value(made->bytes, made->len, last, 3, span, row);
     CHECK(spans(span, made->len - 1, 1) && told(row, LAS_OK, made->bytes[made->len - 1], 0));
     last[LAS_ATTRIBUTE_AT]++;
-    las_attribute_value(made->bytes, made->len, last, 1, span, row);
-    CHECK(told(row, LAS_REFUSED_INDEX, 1, 0) && left_numbers(span, 2));
+    const uint64_t beyond[] = {3, 4, (UINT64_MAX - made->len) / 20 + 4, UINT64_MAX};
+    for (size_t i = 0; i < sizeof beyond / sizeof *beyond; i++) {
+        las_attribute_value(made->bytes, made->len, last, beyond[i], span, row);
+        CHECK(told(row, LAS_REFUSED_INDEX, UINT64_MAX, 0) && left_numbers(span, 2));
+        las_attribute_column(made->bytes, made->len, last, beyond[i], 1, left, 1, row);
+        CHECK(told(row, LAS_REFUSED_INDEX, UINT64_MAX, 0) && left_numbers(left, 1));
+    }
 
     /* places outside the file, and at what is no descriptor */
     const uint64_t places[][LAS_ATTRIBUTES_NUMBERS] = {{UINT64_MAX, 1, 0, 1, 1},

@@ -617,8 +617,8 @@ void las_vlr_first(const uint8_t *file, size_t file_len, uint64_t allowance, con
  * are given as they are stored: scale, offset and the values that stand for none are in the descriptor, and the caller's to apply.
  *
  * The numbers of an attribute say where its values are, so that las_attribute_value and las_attribute_column need neither a file check nor the
- * descriptors. They are of the file that they were asked of, with the bytes that it had then; numbers made by hand are taken too, and no
- * value that would lie outside the file is given. */
+ * descriptors. They are of the file that they were asked of, with the bytes that it had then. Numbers made by hand are taken too: no value is
+ * there that would lie outside the file, and none where the stride is no record length, 20 to 65,535. */
 
 /* The places of an attribute's numbers. */
 enum {
@@ -661,14 +661,15 @@ void las_attribute_find(const uint8_t *file, size_t file_len, uint64_t allowance
 
 /* Where an attribute's value in a point is in the file, the first point being 1; the value of the row is the number that its bytes are, the
  * first byte the lowest, of more than eight bytes the first eight. A signed type stands in two's complement of its own width, and a float
- * as its bits. Refuses with LAS_REFUSED_INDEX and the count of points where there is no such point, 0 or one past the last; and leaves the
- * span. */
+ * as its bits. Refuses with LAS_REFUSED_INDEX and the count of points where there is no such point, 0 or one past the last, or no value;
+ * and leaves the span. */
 void las_attribute_value(const uint8_t *file, size_t file_len, const uint64_t attribute[5], uint64_t point, uint64_t span[2],
                          uint64_t row[3]);
 
 /* The column of an attribute: those numbers of count points from point number first on go to the front of dst, what lies past them
- * staying; the value is the count. Refuses with LAS_REFUSED_INDEX where the stretch is not within the points: an empty one may begin right
- * behind the last; then with LAS_REFUSED_NO_ROOM, with the count, where dst has fewer entries; and leaves dst. */
+ * staying; the value is the count. Refuses with LAS_REFUSED_INDEX where the stretch is not within the points, of which an empty one may begin
+ * right behind the last, or not all have a value; then with LAS_REFUSED_NO_ROOM, with the count, where dst has fewer entries; and leaves
+ * dst. */
 void las_attribute_column(const uint8_t *file, size_t file_len, const uint64_t attribute[5], uint64_t first, uint64_t count,
                           uint64_t *dst, size_t dst_len, uint64_t row[3]);
 
