@@ -1,0 +1,4 @@
+-- definitions
+pub mod First
+-- laws
+pub mod Laws

@@ -1,0 +1,4 @@
+-- definitions
+pub mod Names
+-- laws
+pub mod Laws
