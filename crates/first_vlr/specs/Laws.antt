@@ -6,18 +6,26 @@ use mathlib.Core.List.{List}
 use native.Mathlib.Omega.{arith}
 use borrow.Author.Tests.{le-leb, lt-leb}
 use lib.Dec.{leb}
-use lib.ListN.{length, drop}
-use lib.Seq.{drop-drop}
+use lib.ListN.{length, take, drop, length-drop}
+use lib.Seq.{drop-drop, take-all}
 use Rattle.refusal.specs.declared.Refusal.{Refusal}
 use Rattle.vlr.specs.declared.Extent.the-variants.{Bytes, Refused}
 use Rattle.vlr.specs.Layout.{headSize}
 use Rattle.vlr.specs.Vlr.{dataLength, lengthOf, recordSize, extentOf}
 use Rattle.vlr.specs.Laws.{Whole, accepted, record-size}
 use Rattle.outline.specs.declared.Outline.{Outline}
-use Rattle.cursor.specs.Parts.{between}
+use Rattle.rules.specs.declared.Checked.{Checked}
+use Rattle.rules.specs.declared.Checked.the-variants as checked
+use Rattle.file.specs.Rules.{checkedOf}
+use Rattle.cursor.specs.Parts.{between, outlineIn}
+use Rattle.first_vlr.specs.declared.Opened.the-variants as opened
 use Rattle.first_vlr.specs.declared.FirstVlr.{FirstVlr}
 use Rattle.first_vlr.specs.declared.FirstVlr.the-variants.{At, Nothing}
-use Rattle.first_vlr.specs.First.{isOf, dataAt, firstFrom, firstOf}
+use Rattle.first_vlr.specs.First.{openedBy, openedOf, isOf, firstFrom, firstOf}
+
+-- the bytes from a place on
+pub rest-from : (rest : List ℕ) (at : ℕ) → take (length rest - at) (drop at rest) ≡ drop at rest
+rest-from rest at = take-all (length rest - at) (drop at rest) (simp length-drop (omega arith))
 
 -- one of `left` VLRs at the start of what is left of `rest`
 module _ (user : List ℕ) (id from : ℕ) (rest : List ℕ) (at left : ℕ) (some : 0 < left) where
@@ -48,7 +56,7 @@ module _ (user : List ℕ) (id from : ℕ) (rest : List ℕ) (at left : ℕ) (so
     unfolding firstFrom
     not-it e =
         let further : from + at + n ≡ from + (at + n) = omega arith in
-        rw (one, whole, e, size, drop-drop, further)
+        ap (λ (k : ℕ). search k at) one ∙ rw (whole, e, size, drop-drop, further)
 
 -- where the point offset lies before the header's end or beyond the file there are none
 module _ (o : Outline) (user : List ℕ) (id : ℕ) (s : List ℕ) where
@@ -63,3 +71,24 @@ module _ (o : Outline) (user : List ℕ) (id : ℕ) (s : List ℕ) where
   pub in-between : o .«header_size» ≤ o .«offset_to_point_data» → o .«offset_to_point_data» ≤ length s → firstOf o user id s ≡ firstFrom user id (o .«number_of_variable_length_records») (o .«header_size») (between (o .«header_size») (o .«offset_to_point_data») s)
   unfolding firstOf
   in-between h g = rw (le-leb _ _ h, le-leb _ _ g)
+
+-- a file is opened exactly when the check accepts it
+module _ (allowance : ℕ) (s : List ℕ) where
+  pub opened-file : {o : Outline} → openedOf allowance s ≡ opened.File o → (n : ℕ) × (checkedOf allowance s ≡ checked.Accepted n) × (o ≡ outlineIn s)
+  unfolding openedOf
+  opened-file {o} = go (checkedOf allowance s) refl
+    where
+      go : (x : Checked) → checkedOf allowance s ≡ x → openedBy (outlineIn s) x ≡ opened.File o → (n : ℕ) × (checkedOf allowance s ≡ checked.Accepted n) × (o ≡ outlineIn s)
+      go (checked.Accepted n) e p = (n, e, (cc))
+      go (checked.Refused r k n) e p = let z : _≡_ {A = ℕ} 0 1 = cc in absurd (omega arith)
+
+  pub opened-refused : {r : Refusal} {k : ℕ} → openedOf allowance s ≡ opened.Refused r k → (n : ℕ) × (checkedOf allowance s ≡ checked.Refused r k n)
+  unfolding openedOf
+  opened-refused {r} {k} = go (checkedOf allowance s) refl
+    where
+      go : (x : Checked) → checkedOf allowance s ≡ x → openedBy (outlineIn s) x ≡ opened.Refused r k → (n : ℕ) × (checkedOf allowance s ≡ checked.Refused r k n)
+      go (checked.Accepted n) e p = let z : _≡_ {A = ℕ} 0 1 = cc in absurd (omega arith)
+      go (checked.Refused q j n) e p =
+          let refusal : q ≡ r = cc in
+          let number : j ≡ k = cc in
+          (n, e ∙ rw (refusal, number))
