@@ -1,14 +1,15 @@
 -- Laws of the search: one VLR more, found, passed or cut off; and where there is no room for any.
-use Prim.Native.Nat.{ℕ, suc, _+_, _-_, _≤_, _<_}
+use Prim.Native.Nat.{ℕ, zero, suc, _+_, _-_, _≤_, _<_}
 use mathlib.Core.Path.{_≡_, refl, ap, sym, _∙_}
 use mathlib.Core.Bool.{Bool, true, false, cond, _&&_, and-false}
 use mathlib.Core.List.{List}
 use native.Mathlib.Omega.{arith}
-use borrow.Author.Tests.{le-leb, lt-leb}
+use borrow.Author.Tests.{le-leb, lt-leb, leb-true}
 use lib.Dec.{leb}
-use lib.ListN.{length, take, drop, length-drop}
+use lib.ListN.{length, take, drop, length-take, length-drop}
 use lib.Seq.{drop-drop, take-all}
 use Rattle.refusal.specs.declared.Refusal.{Refusal}
+use Rattle.vlr.specs.declared.Extent.{Extent}
 use Rattle.vlr.specs.declared.Extent.the-variants.{Bytes, Refused}
 use Rattle.vlr.specs.Layout.{headSize}
 use Rattle.vlr.specs.Vlr.{dataLength, lengthOf, recordSize, extentOf}
@@ -21,7 +22,7 @@ use Rattle.cursor.specs.Parts.{between, outlineIn}
 use Rattle.first_vlr.specs.declared.Opened.the-variants as opened
 use Rattle.first_vlr.specs.declared.FirstVlr.{FirstVlr}
 use Rattle.first_vlr.specs.declared.FirstVlr.the-variants.{At, Nothing}
-use Rattle.first_vlr.specs.First.{openedBy, openedOf, isOf, firstFrom, firstOf}
+use Rattle.first_vlr.specs.First.{openedBy, openedOf, isOf, dataAt, firstBy, firstFrom, firstOf}
 
 -- the bytes from a place on
 pub rest-from : (rest : List ℕ) (at : ℕ) → take (length rest - at) (drop at rest) ≡ drop at rest
@@ -71,6 +72,41 @@ module _ (o : Outline) (user : List ℕ) (id : ℕ) (s : List ℕ) where
   pub in-between : o .«header_size» ≤ o .«offset_to_point_data» → o .«offset_to_point_data» ≤ length s → firstOf o user id s ≡ firstFrom user id (o .«number_of_variable_length_records») (o .«header_size») (between (o .«header_size») (o .«offset_to_point_data») s)
   unfolding firstOf
   in-between h g = rw (le-leb _ _ h, le-leb _ _ g)
+
+-- what is found lies in the bytes that are searched: the first VLR's, or those of the others,
+found-by : (user : List ℕ) (id at : ℕ) (rest : List ℕ) (others : FirstVlr) {a l : ℕ} → (others ≡ At a l → a + l ≤ at + recordSize false rest + length (drop (recordSize false rest) rest)) → firstBy user id at rest (extentOf false rest) others ≡ At a l → a + l ≤ at + length rest
+found-by user id at rest others {a} {l} later = go (extentOf false rest) refl
+  where
+    by : {m : ℕ} → Whole false rest m → (b : Bool) → cond b (dataAt at rest) others ≡ At a l → a + l ≤ at + length rest
+    by w true p =
+        let start : a ≡ at + 54 = cc in
+        let long : l ≡ dataLength (lengthOf false rest) = cc in
+        omega arith
+    by w false p = omega (arith, later p, length-drop (recordSize false rest) rest, record-size false rest)
+
+    go : (x : Extent) → extentOf false rest ≡ x → firstBy user id at rest x others ≡ At a l → a + l ≤ at + length rest
+    go (Bytes m) e p = by (accepted false rest e) (isOf user id rest) p
+    go (Refused r) e p = let z : _≡_ {A = ℕ} 0 1 = cc in absurd (omega arith)
+
+found-in : (user : List ℕ) (id n at : ℕ) (rest : List ℕ) {a l : ℕ} → firstFrom user id n at rest ≡ At a l → a + l ≤ at + length rest
+unfolding firstFrom
+found-in user id zero at rest e = let z : _≡_ {A = ℕ} 0 1 = cc in absurd (omega arith)
+found-in user id (suc n) at rest e =
+    let size = recordSize false rest in
+    found-by user id at rest (firstFrom user id n (at + size) (drop size rest)) (found-in user id n (at + size) (drop size rest)) e
+
+-- and so in the file, before the points
+pub found-within : (o : Outline) (user : List ℕ) (id : ℕ) (s : List ℕ) {a l : ℕ} → firstOf o user id s ≡ At a l → a + l ≤ length s
+unfolding firstOf
+found-within o user id s {a} {l} = go (leb (o .«header_size») (o .«offset_to_point_data»)) (leb (o .«offset_to_point_data») (length s)) refl refl
+  where
+    go : (x y : Bool) → leb (o .«header_size») (o .«offset_to_point_data») ≡ x → leb (o .«offset_to_point_data») (length s) ≡ y → cond (x && y) (firstFrom user id (o .«number_of_variable_length_records») (o .«header_size») (between (o .«header_size») (o .«offset_to_point_data») s)) Nothing ≡ At a l → a + l ≤ length s
+    go true true p q e =
+        let h = leb-true (o .«header_size») (o .«offset_to_point_data») p in
+        let g = leb-true (o .«offset_to_point_data») (length s) q in
+        omega (arith, found-in user id (o .«number_of_variable_length_records») (o .«header_size») (between (o .«header_size») (o .«offset_to_point_data») s) e, length-take (o .«offset_to_point_data» - o .«header_size») (drop (o .«header_size») s))
+    go true false p q e = let z : _≡_ {A = ℕ} 0 1 = cc in absurd (omega arith)
+    go false y p q e = let z : _≡_ {A = ℕ} 0 1 = cc in absurd (omega arith)
 
 -- a file is opened exactly when the check accepts it
 module _ (allowance : ℕ) (s : List ℕ) where
