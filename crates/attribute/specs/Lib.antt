@@ -1,0 +1,6 @@
+-- definitions
+pub mod Attributes
+pub mod Find
+-- laws
+pub mod Laws
+pub mod Ready
