@@ -23,7 +23,7 @@ search-requires : tie.Need-search-requires
 search-requires c κs =
     let b = c .before .before .before in
     let a = start b .args in
-    ready (a .allowance) (a .file .now) (b .before .before .shared-slice-known .given) (began (a .allowance) (a .file .now) (told b (c .before .c .given .1)))
+    ready (a .allowance) (a .file .now) (λ k. b .before .before .shared-slice-known .given k .fits) (began (a .allowance) (a .file .now) (told b (c .before .c .given .1)))
 
 returns : tie.Need-returns
 returns c =
