@@ -1,0 +1,5 @@
+-- definitions
+pub mod Value
+pub mod Many
+-- laws
+pub mod Laws
