@@ -2,3 +2,5 @@
 pub mod First
 -- laws
 pub mod Laws
+-- theorems
+pub mod Theorems
