@@ -110,6 +110,14 @@ found-within o user id s {a} {l} = go (leb (o .«header_size») (o .«offset_to_
 
 -- a file is opened exactly when the check accepts it
 module _ (allowance : ℕ) (s : List ℕ) where
+  pub opens : {n : ℕ} → checkedOf allowance s ≡ checked.Accepted n → openedOf allowance s ≡ opened.File (outlineIn s)
+  unfolding openedOf
+  opens e = rw e
+
+  pub opens-refused : {r : Refusal} {k n : ℕ} → checkedOf allowance s ≡ checked.Refused r k n → openedOf allowance s ≡ opened.Refused r k
+  unfolding openedOf
+  opens-refused e = rw e
+
   pub opened-file : {o : Outline} → openedOf allowance s ≡ opened.File o → (n : ℕ) × (checkedOf allowance s ≡ checked.Accepted n) × (o ≡ outlineIn s)
   unfolding openedOf
   opened-file {o} = go (checkedOf allowance s) refl
