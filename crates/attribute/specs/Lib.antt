@@ -8,5 +8,6 @@ pub mod Laws
 pub mod Ready
 pub mod Told
 pub mod Named
+pub mod Turn
 -- theorems
 pub mod Theorems

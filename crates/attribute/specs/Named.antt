@@ -40,23 +40,23 @@ module _ (s : List ℕ) (start n j : ℕ) (below : j < n) where
   abbrev d : List ℕ
   d = take (n * 192) (drop start s)
 
-  number : (w at : ℕ) → at + w ≤ 192 → num w at (drop (start + j * 192) s) ≡ num w at (nth j d)
+  pub number : (w at : ℕ) → at + w ≤ 192 → num w at (drop (start + j * 192) s) ≡ num w at (nth j d)
   number w at h =
       let there : start + j * 192 + at ≡ start + (j * 192 + at) = omega arith in
       num-drop w at (start + j * 192) s ∙ rw there (sym (num-drop w (j * 192 + at) start s))
       ∙ sym (num-take w (j * 192 + at) (drop start s) (n * 192) (omega arith)) ∙ sym (num-drop w at (j * 192) d)
 
-  size : sizeIn (drop (start + j * 192) s) ≡ sizeIn (nth j d)
+  pub size : sizeIn (drop (start + j * 192) s) ≡ sizeIn (nth j d)
   unfolding sizeIn
   size = λ i. sizeOf (number 1 2 (omega arith) i) (number 1 3 (omega arith) i)
 
 -- the sizes of some, and of one more
-sizes-next : (j : ℕ) (d : List ℕ) → sizesOf (suc j) d ≡ sizesOf j d + sizeIn (nth j d)
+pub sizes-next : (j : ℕ) (d : List ℕ) → sizesOf (suc j) d ≡ sizesOf j d + sizeIn (nth j d)
 unfolding sizesOf
 sizes-next zero d = omega arith
 sizes-next (suc j) d = let e : suc j * 192 ≡ 192 + j * 192 = omega arith in rw (e, ← drop-drop) (omega (arith, sizes-next j (drop 192 d)))
 
-sizes-grow : (m j : ℕ) (d : List ℕ) → sizesOf j d ≤ sizesOf (j + m) d
+pub sizes-grow : (m j : ℕ) (d : List ℕ) → sizesOf j d ≤ sizesOf (j + m) d
 sizes-grow zero j d = rw add-zero (omega arith)
 sizes-grow (suc m) j d = let e : j + suc m ≡ suc (j + m) = omega arith in rw e (omega (arith, sizes-next (j + m) d, sizes-grow m j d))
 

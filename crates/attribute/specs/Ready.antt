@@ -72,16 +72,21 @@ module _ (allowance : ℕ) (s : List ℕ) {c : Attributes} where
           in-file o accepted is (firstOf o lasfSpec 4 s) refl p
       go (opened.Refused r k) e p = let z : _≡_ {A = ℕ} 0 1 = cc in absurd (omega arith)
 
+  -- the extra bytes are some of a record's
+  pub extra-small : Bytes s → Began allowance s c → pointFormat (outlineIn s) .«extra_bytes» ≤ 65535
+  extra-small bytes b =
+      let o = outlineIn s in
+      omega (arith, record-sum (pointFormat o), format-long allowance s (accepted-holds allowance s (b .accepted)), length-fits s bytes)
+
   -- so its descriptors stand in the file, and its values in a record
   pub ready : Bytes s → Began allowance s c → Ready c s
   unfolding beforeFirst
   ready bytes b =
       let o = outlineIn s in
       let holds = accepted-holds allowance s (b .accepted) in
-      let extra : pointFormat o .«extra_bytes» ≤ 65535 = omega (arith, record-sum (pointFormat o), format-long allowance s holds, length-fits s bytes) in
       subst⁻¹ (λ (k : Attributes). Ready k s) (b .place)
       (record {
         descriptors = b .within;
-        sizes = omega (arith, b .sizes);
+        sizes = omega (arith, b .sizes, extra-small bytes b);
         near = omega (arith, holds .parts .offset-within, fixed-le (pointFormat o));
       })
