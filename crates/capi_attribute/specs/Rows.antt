@@ -1,5 +1,5 @@
 -- An attribute and a place among the attributes as five numbers, and the rows of their calls.
-use Prim.Native.Nat.{ℕ}
+use Prim.Native.Nat.{ℕ, _%_}
 use mathlib.Core.Bool.{Bool, true, false, cond}
 use mathlib.Core.List.{List, [], _∷_}
 use lib.ListN.{getD}
@@ -18,10 +18,17 @@ use Rattle.attribute.specs.declared.Step.{Step}
 use Rattle.attribute.specs.declared.Found.{Found}
 use Rattle.attribute.specs.declared.Found.the-variants as found
 use Rattle.attribute.specs.Attributes.{nextOf}
+use Rattle.attribute_value.specs.declared.Placed.{Placed}
+use Rattle.attribute_value.specs.declared.Placed.the-variants as placed
+use Rattle.attribute_value.specs.Value.{placedOf, bitsOf}
 
--- an attribute: its type, the bytes of a value, the first one's place, how far the next one is, and the points
+-- an attribute: its type, the bytes of a value, the first one's place, how far the next one is, and the points; and the attribute of five
+-- numbers, of the type its low bits
 unfoldable pub attributeNumbers : Attribute → List ℕ
 attributeNumbers a = a .«data_type» ∷ a .size ∷ a .at ∷ a .stride ∷ a .count ∷ []
+
+unfoldable pub attributeFrom : List ℕ → Attribute
+attributeFrom n = record { «data_type» = getD n 0 0 % 256; size = getD n 1 0; at = getD n 2 0; stride = getD n 3 0; count = getD n 4 0 }
 
 -- a place: the next descriptor, how many are left, the next one's first value, how far its next one is, and the points; and the place of
 -- five numbers
@@ -48,6 +55,14 @@ nextRow s n a d = stepped (nextOf s (placeFrom n)) n a d
 abbrev pub foundRow : List ℕ → Found → List ℕ × List ℕ
 foundRow a (found.Is b) = (0 ∷ 0 ∷ 0 ∷ [], attributeNumbers b)
 foundRow a (found.Refused r k) = (refusedRow r k, a)
+
+-- the row, whose value is the first eight bytes of a value, and the span d, which a refusal leaves
+abbrev pub valueBy : List ℕ → ℕ → ℕ → Placed → List ℕ × List ℕ
+valueBy d size bits (placed.At at) = (0 ∷ bits ∷ 0 ∷ [], partRow at size)
+valueBy d size bits (placed.Refused r) = (refusedRow r 0, d)
+
+unfoldable pub valueRow : List ℕ → Attribute → ℕ → List ℕ → List ℕ × List ℕ
+valueRow d a point s = valueBy d (a .size) (bitsOf a point s) (placedOf a point s)
 
 -- the row, whose value says whether there is one, and the span d, which no VLR and a refusal leave
 abbrev pub firstBy : List ℕ → FirstVlr → List ℕ × List ℕ

@@ -1,16 +1,20 @@
 // Attributes of the extra bytes for C and Rust, and the first VLR with a user id and a record id. An attribute crosses the boundary as
 // five numbers: its type, the bytes of a value, where the first point's stands in the file, how far the next point's is from there, and
 // the points of the file. A place among the attributes is five too, which the caller keeps: the next descriptor, how many are left, where
-// the first point's next value stands, and again how far the next point's is and the points. Rows are those of the crate words.
+// the first point's next value stands, and again how far the next point's is and the points. Of a type wider than its field the low bits
+// count. Rows are those of the crate words.
 ghost use mathlib.Core.Path.{_≡_};
 ghost use Rattle.first_vlr.specs.First.{openedOf};
 ghost use Rattle.attribute.specs.Attributes.{begunOf};
 ghost use Rattle.attribute.specs.Find.{foundOf};
-ghost use Rattle.capi_attribute.specs.Rows.{attributeNumbers, placeNumbers, placeFrom, begunRow, nextRow, foundRow, firstBy, firstRow};
+ghost use Rattle.attribute_value.specs.Many.{columnOf};
+ghost use Rattle.capi_column.specs.Rows.{toldOf};
+ghost use Rattle.capi_attribute.specs.Rows.{attributeNumbers, attributeFrom, placeNumbers, placeFrom, begunRow, nextRow, foundRow, valueRow, firstBy, firstRow};
 use attribute::Attribute;
 use attribute::Attributes;
 use attribute::Begun;
 use attribute::Found;
+use attribute_value::Placed;
 use first_vlr::FirstVlr;
 use first_vlr::Opened;
 
@@ -76,6 +80,44 @@ pub extern "C" fn las_attribute_find(
     }
 }
 
+// Where the attribute's value in the point of this number stands in the file, the first being 1; the row's value is its first eight bytes as
+// a number. A refusal leaves the span.
+#[no_mangle]
+pub extern "C" fn las_attribute_value(
+    file: &[u8],
+    attribute: &[u64; 5],
+    point: u64,
+    span: &mut [u64; 2],
+    row: &mut [u64; 3],
+)
+    ensures { λ _. ⌜ (now (row .exit), now (span .exit)) ≡ valueRow (now (span .entry)) (attributeFrom (now (attribute .entry))) point (now (file .entry)) ⌝ }
+{
+    let a = attribute_from(attribute);
+    match attribute_value::place(file, a, point) {
+        Placed::At(at) => {
+            words::tell_part(span, at as u64, a.size as u64);
+            words::tell(row, 0, attribute_value::bits(file, a, point), 0)
+        }
+        Placed::Refused(refusal) => words::refuse(row, refusal, 0),
+    }
+}
+
+// The same numbers of a stretch of points, at the front of dst; the row's value is the count of entries filled.
+#[no_mangle]
+pub extern "C" fn las_attribute_column(
+    file: &[u8],
+    attribute: &[u64; 5],
+    first: u64,
+    count: u64,
+    dst: &mut [u64],
+    row: &mut [u64; 3],
+)
+    ensures { λ _. ⌜ (now (row .exit), now (dst .exit)) ≡ toldOf (columnOf (attributeFrom (now (attribute .entry))) first count (now (file .entry)) (now (dst .entry))) ⌝ }
+{
+    let a = attribute_from(attribute);
+    capi_column::tell(attribute_value::column(file, a, first, count, dst), row)
+}
+
 // Where the data of the first VLR with this user id and record id stands in the file; the row's value is 1 where there is one, and else 0,
 // which leaves the span, as a refusal does.
 #[no_mangle]
@@ -119,6 +161,19 @@ fn attribute_numbers(a: Attribute) -> [u64; 5]
         a.stride as u64,
         a.count,
     ]
+}
+
+// The attribute of five numbers.
+fn attribute_from(n: &[u64; 5]) -> Attribute
+    ensures { λ r. ⌜ r ≡ attributeFrom (now (n .entry)) ⌝ }
+{
+    Attribute {
+        data_type: (n[0] % 256) as u8,
+        size: n[1] as usize,
+        at: n[2] as usize,
+        stride: n[3] as usize,
+        count: n[4],
+    }
 }
 
 // A place's numbers.

@@ -204,8 +204,8 @@ fn channel(
     )
 }
 
-// The row of a column.
-fn tell(filled: Filled, row: &mut [u64; 3])
+// The row of a column, for this crate and for the columns of attributes.
+pub fn tell(filled: Filled, row: &mut [u64; 3])
     ensures { λ _. ⌜ now (row .exit) ≡ filledRow filled ⌝ }
 {
     match filled {
