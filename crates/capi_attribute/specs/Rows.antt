@@ -3,7 +3,7 @@ use Prim.Native.Nat.{ℕ, _%_}
 use mathlib.Core.Bool.{Bool, true, false, cond}
 use mathlib.Core.List.{List, [], _∷_}
 use lib.ListN.{getD}
-use Rattle.words.specs.Rows.{refusedRow, partRow}
+use Rattle.words.specs.Rows.{refusedRow}
 use Rattle.descriptor.specs.Layout.{descriptorSize}
 use Rattle.first_vlr.specs.declared.Opened.{Opened}
 use Rattle.first_vlr.specs.declared.Opened.the-variants as opened
@@ -58,7 +58,7 @@ foundRow a (found.Refused r k) = (refusedRow r k, a)
 
 -- the row, whose value is the first eight bytes of a value, and the span d, which a refusal leaves
 abbrev pub valueBy : List ℕ → ℕ → ℕ → Placed → List ℕ × List ℕ
-valueBy d size bits (placed.At at) = (0 ∷ bits ∷ 0 ∷ [], partRow at size)
+valueBy d size bits (placed.At at) = (0 ∷ bits ∷ 0 ∷ [], at ∷ size ∷ [])
 valueBy d size bits (placed.Refused r) = (refusedRow r 0, d)
 
 unfoldable pub valueRow : List ℕ → Attribute → ℕ → List ℕ → List ℕ × List ℕ
@@ -66,7 +66,7 @@ valueRow d a point s = valueBy d (a .size) (bitsOf a point s) (placedOf a point 
 
 -- the row, whose value says whether there is one, and the span d, which no VLR and a refusal leave
 abbrev pub firstBy : List ℕ → FirstVlr → List ℕ × List ℕ
-firstBy d (first.At start n) = (0 ∷ 1 ∷ 0 ∷ [], partRow start n)
+firstBy d (first.At start n) = (0 ∷ 1 ∷ 0 ∷ [], start ∷ n ∷ [])
 firstBy d first.Nothing = (0 ∷ 0 ∷ 0 ∷ [], d)
 
 abbrev pub firstRow : List ℕ → ℕ → List ℕ → List ℕ → Opened → List ℕ × List ℕ

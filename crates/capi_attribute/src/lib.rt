@@ -95,7 +95,7 @@ pub extern "C" fn las_attribute_value(
     let a = attribute_from(attribute);
     match attribute_value::place(file, a, point) {
         Placed::At(at) => {
-            words::tell_part(span, at as u64, a.size as u64);
+            *span = [at as u64, a.size as u64];
             words::tell(row, 0, attribute_value::bits(file, a, point), 0)
         }
         Placed::Refused(refusal) => words::refuse(row, refusal, 0),
@@ -143,7 +143,7 @@ fn tell_first(first: FirstVlr, span: &mut [u64; 2], row: &mut [u64; 3])
 {
     match first {
         FirstVlr::At { start, length } => {
-            words::tell_part(span, start as u64, length as u64);
+            *span = [start as u64, length as u64];
             words::tell(row, 0, 1, 0)
         }
         FirstVlr::Nothing => words::tell(row, 0, 0, 0),

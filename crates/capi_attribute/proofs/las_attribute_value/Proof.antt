@@ -2,7 +2,6 @@ use Prim.Native.Nat.{ℕ}
 use mathlib.Core.Path.{_≡_, sym, ap, _∙_}
 use mathlib.Core.List.{[], _∷_}
 use borrow.Author.Needs.{needs}
-use Rattle.words.specs.Rows.{partRow}
 use Rattle.attribute.specs.declared.Attribute.{Attribute}
 use Rattle.attribute_value.specs.declared.Placed.{Placed}
 use Rattle.attribute_value.specs.Value.{bitsOf}
@@ -21,11 +20,9 @@ told c x is =
 
 returns : tie.Need-returns
 returns c =
-    let p = c .before .before .before in
-    let e = p .before .before .before in
-    (λ i. (c .tell .ensures i, p .tell-part .ensures i))
-    ∙ ap (λ (n : ℕ). (0 ∷ n ∷ 0 ∷ [], partRow (e .at .given .0 .0) (e .before .before .before .attribute-from .result .size))) (c .before .bits .ensures)
-    ∙ told (e .before .before) _ (e .at .given .1)
+    let e = c .before .before .before .before .before in
+    let d = e .at .given .0 .0 ∷ e .before .before .before .attribute-from .result .size ∷ [] in
+    (λ i. (c .tell .ensures i, d)) ∙ ap (λ (n : ℕ). (0 ∷ n ∷ 0 ∷ [], d)) (c .before .bits .ensures) ∙ told (e .before .before) _ (e .at .given .1)
 
 returns-2 : tie.Need-returns-2
 returns-2 c =
@@ -38,4 +35,4 @@ las-attribute-value-spec =
     tie.close
     (tie.spec
     (λ c κs. search needs) (λ c κs. search needs) (λ c. search needs) (λ c κs. search needs) (λ c κs. search needs)
-    (λ c κs. search needs) (λ c. search needs) (λ c κs. search needs) returns returns-2)
+    (λ c. search needs) (λ c κs. search needs) returns returns-2)
