@@ -116,7 +116,8 @@ enum {
 };
 
 /* Some of the caller's bytes, as two numbers: where they start in the slice that was lent, and how many there are. Where there
- * are none, both are 0, so that they lie in every slice. */
+ * are none, both are 0, so that they lie in every slice; but of an attribute's empty value and of a VLR's empty data it is told where
+ * they start. */
 enum {
     LAS_SPAN_START = 0,
     LAS_SPAN_LENGTH = 1,
