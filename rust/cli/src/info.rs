@@ -23,13 +23,13 @@ Shows what the header says: version, software, date, point format, counts, scale
 and bounds are the header's word, not worked out from the points.
 
 Then come the attributes that the extra bytes of every point hold: name, type, scale and offset where they are said to
-count, first byte in a point, and description. They are described by the first VLR of LASF_Spec with record id 4; an EVLR
-is not looked at. Where one of its descriptors is broken, the points have no attributes by name, and it is said why;
-their bytes are there all the same, as the field 'extra' of 'inscjarol points'.
+count, first byte in a point, and description. They are described by the first VLR of LASF_Spec with record id 4; an
+EVLR is not looked at. Where one of its descriptors is broken, the points have no attributes by name, and it is said
+why; their bytes are there all the same, as the field 'extra' of 'inscjarol points'.
 
-Then come the VLRs and EVLRs, and the waveform packets where they are a record of the file, each with its user id, record
-id, description, length and first byte, and what it is where that is known; and the gaps, which are bytes that belong to
-no part.
+Then come the VLRs and EVLRs, and the waveform packets where they are a record of the file, each with its user id,
+record id, description, length and first byte, and what it is where that is known; and the gaps, which are bytes that
+belong to no part.
 
 Each file stands under its name. Of a folder the .las files are shown, in the order of their names.
 
