@@ -53,6 +53,7 @@ pub mod records;
 pub mod replay;
 pub mod replay_append;
 pub mod replay_column;
+pub mod replay_frame;
 pub mod replay_migrate;
 pub mod replay_reclassify;
 pub mod replay_records;

@@ -9,7 +9,7 @@ use crate::{
     append_model::{self, Offer},
     capi::BoundsNumbers,
     file_model::Found,
-    replay,
+    replay_frame::{self, List, NOTHING, Stream, put, summed},
     report::Tally,
 };
 use std::{io, path::Path};
@@ -41,55 +41,7 @@ struct Question {
     last: u64,
 }
 
-/// Bytes without pattern.
-pub(crate) struct Stream(pub u64);
-
-impl Stream {
-    fn byte(&mut self) -> u8 {
-        self.0 = self
-            .0
-            .wrapping_mul(6_364_136_223_846_793_005)
-            .wrapping_add(1_442_695_040_888_963_407);
-        (self.0 >> 56) as u8
-    }
-
-    pub fn bytes(&mut self, count: u64) -> Vec<u8> {
-        (0..count).map(|_| self.byte()).collect()
-    }
-}
-
-/// A sum over bytes, FNV-1a of 64 bits.
-pub(crate) fn summed(sum: u64, bytes: &[u8]) -> u64 {
-    bytes.iter().fold(sum, |sum, &byte| {
-        (sum ^ u64::from(byte)).wrapping_mul(0x100_0000_01b3)
-    })
-}
-
-pub(crate) const NOTHING: u64 = 0xcbf2_9ce4_8422_2325;
-
 impl Question {
-    fn line(&self) -> String {
-        let numbers = [
-            self.seed,
-            self.minor,
-            self.header_size,
-            self.vlrs,
-            self.offset,
-            self.format,
-            self.length,
-            self.count,
-            self.which,
-            self.counted,
-            self.size,
-            self.allowance,
-            self.lent,
-            self.n,
-            self.believed,
-            self.last,
-        ];
-        numbers.map(|n| n.to_string()).join(" ") + "\n"
-    }
-
     /// The file, the records and the bounds.
     fn make(&self) -> (Vec<u8>, Vec<u8>, BoundsNumbers) {
         let mut stream = Stream(self.seed);
@@ -99,13 +51,7 @@ impl Question {
             let bytes = stream.bytes(8);
             bytes.iter().rev().fold(0, |n, &b| n << 8 | u64::from(b))
         });
-        let mut put = |at: u64, width: u64, value: u64| {
-            for k in 0..width {
-                if let Some(byte) = file.get_mut((at + k) as usize) {
-                    *byte = (value >> (8 * k)) as u8;
-                }
-            }
-        };
+        let mut put = |at, width, value| put(&mut file, at, width, value);
         put(0, 4, u32::from_le_bytes(*b"LASF").into());
         put(24, 1, 1);
         put(25, 1, self.minor);
@@ -144,6 +90,33 @@ impl Question {
 
     fn end(&self) -> u64 {
         self.offset + self.count * self.length
+    }
+}
+
+impl replay_frame::Question for Question {
+    fn seeded(self, seed: u64) -> Question {
+        Question { seed, ..self }
+    }
+
+    fn numbers(&self) -> Vec<u64> {
+        vec![
+            self.seed,
+            self.minor,
+            self.header_size,
+            self.vlrs,
+            self.offset,
+            self.format,
+            self.length,
+            self.count,
+            self.which,
+            self.counted,
+            self.size,
+            self.allowance,
+            self.lent,
+            self.n,
+            self.believed,
+            self.last,
+        ]
     }
 
     /// What the rules answer.
@@ -221,29 +194,6 @@ fn files() -> [Question; 10] {
     ]
 }
 
-#[derive(Default)]
-struct List {
-    questions: String,
-    answers: String,
-    asked: u64,
-    numbers: Vec<u64>,
-}
-
-impl List {
-    fn ask(&mut self, question: Question) {
-        let question = Question {
-            seed: self.asked,
-            ..question
-        };
-        self.asked += 1;
-        self.questions += &question.line();
-        let answer = question.answer();
-        let number = answer.split(' ').next().expect("a row");
-        self.numbers.push(number.parse().expect("a number"));
-        self.answers += &answer;
-    }
-}
-
 /// Makes the list afresh, and writes it into the folder or compares it with what the folder has.
 pub fn compare(tally: &mut Tally, folder: &Path, write: bool) -> io::Result<()> {
     let mut list = List::default();
@@ -253,17 +203,8 @@ pub fn compare(tally: &mut Tally, folder: &Path, write: bool) -> io::Result<()> 
         counts(&mut list, file);
         refused(&mut list, file);
     }
-    for number in [0, 1, 3, 4, 7, 9, 10, 11, 12, 22, 28, 29, 30, 31] {
-        assert!(list.numbers.contains(&number), "refusal {number}");
-    }
-    println!("replay list of appends: {}", list.asked);
-    replay::keep(
-        tally,
-        folder,
-        write,
-        list.questions.into_bytes(),
-        list.answers,
-    )
+    let numbers = [0, 1, 3, 4, 7, 9, 10, 11, 12, 22, 28, 29, 30, 31];
+    list.keep("appends", &numbers, tally, folder, write)
 }
 
 /// A file to which n records can be added, with so much room behind them.

@@ -11,9 +11,8 @@ use crate::{
         Column::{self, *},
         Stretch,
     },
-    file_model::{Found, POINT_BYTES, standard_size},
-    replay,
-    replay_append::{NOTHING, Stream, summed},
+    file_model::Found,
+    replay_frame::{self, Frame, List, NOTHING, put, summed},
     report::Tally,
 };
 use std::{io, path::Path};
@@ -23,28 +22,11 @@ use std::{io, path::Path};
 struct Question {
     /// Where the bytes without pattern begin.
     seed: u64,
-    minor: u64,
-    header_size: u64,
-    /// VLRs without data.
-    vlrs: u64,
-    offset: u64,
-    format: u64,
-    length: u64,
-    /// The legacy count, and the large one, where there is one.
-    legacy: u64,
-    large: u64,
-    /// Where waveform packets without data start, in 1.3, or 0.
-    waveform: u64,
-    /// Where EVLRs without data start, and how many there are, in 1.4.
-    evlr_start: u64,
-    evlrs: u64,
+    frame: Frame,
     /// A point from 1 on, or 0, and 64 bits at a place in its record.
     point: u64,
     place: u64,
     bits: u64,
-    /// The bytes of the file, and the allowance.
-    size: u64,
-    allowance: u64,
     /// The column, by its number among all, and the stretch.
     column: u64,
     first: u64,
@@ -67,89 +49,35 @@ fn width(column: Column) -> usize {
 }
 
 impl Question {
-    fn line(&self) -> String {
-        let numbers = [
-            self.seed,
-            self.minor,
-            self.header_size,
-            self.vlrs,
-            self.offset,
-            self.format,
-            self.length,
-            self.legacy,
-            self.large,
-            self.waveform,
-            self.evlr_start,
-            self.evlrs,
+    /// The file.
+    fn make(&self) -> Vec<u8> {
+        let mut file = self.frame.make(self.seed);
+        if self.point > 0 {
+            let at = self.frame.offset + (self.point - 1) * self.frame.length;
+            put(&mut file, at + self.place, 8, self.bits);
+        }
+        file
+    }
+}
+
+impl replay_frame::Question for Question {
+    fn seeded(self, seed: u64) -> Question {
+        Question { seed, ..self }
+    }
+
+    fn numbers(&self) -> Vec<u64> {
+        let asked = [
             self.point,
             self.place,
             self.bits,
-            self.size,
-            self.allowance,
+            self.frame.size,
+            self.frame.allowance,
             self.column,
             self.first,
             self.count,
             self.room,
         ];
-        numbers.map(|n| n.to_string()).join(" ") + "\n"
-    }
-
-    /// The file.
-    fn make(&self) -> Vec<u8> {
-        let mut file = Stream(self.seed).bytes(self.size);
-        let mut put = |at: u64, width: u64, value: u64| {
-            for k in 0..width {
-                if let Some(byte) = file.get_mut((at + k) as usize) {
-                    *byte = (value >> (8 * k)) as u8;
-                }
-            }
-        };
-        if self.point > 0 {
-            let at = self.offset + (self.point - 1) * self.length;
-            put(at + self.place, 8, self.bits);
-        }
-        put(0, 4, u32::from_le_bytes(*b"LASF").into());
-        put(24, 1, 1);
-        put(25, 1, self.minor);
-        put(94, 2, self.header_size);
-        put(96, 4, self.offset);
-        put(100, 4, self.vlrs);
-        put(104, 1, self.format);
-        put(105, 2, self.length);
-        put(107, 4, self.legacy);
-        if self.minor == 3 {
-            put(6, 2, if self.waveform > 0 { 2 } else { 0 });
-            put(227, 8, self.waveform);
-        }
-        if self.minor == 4 {
-            put(235, 8, self.evlr_start);
-            put(243, 4, self.evlrs);
-            put(247, 8, self.large);
-        }
-        for k in 0..self.vlrs {
-            put(self.header_size + 54 * k + 20, 2, 0);
-        }
-        if self.waveform > 0 && self.minor == 3 {
-            put(self.waveform + 20, 8, 0);
-        }
-        if self.evlr_start > 0 {
-            for k in 0..self.evlrs.min(9) {
-                put(self.evlr_start + 60 * k + 20, 8, 0);
-            }
-        }
-        file
-    }
-
-    /// The points that are made.
-    fn points(&self) -> u64 {
-        match (self.legacy, self.minor) {
-            (0, 4) => self.large,
-            (legacy, _) => legacy,
-        }
-    }
-
-    fn end(&self) -> u64 {
-        self.offset + self.points() * self.length
+        [&[self.seed][..], &self.frame.numbers(), &asked].concat()
     }
 
     /// What the rules answer.
@@ -157,7 +85,7 @@ impl Question {
         let column = COLUMNS[self.column as usize];
         let stretch = Stretch {
             column,
-            allowance: self.allowance,
+            allowance: self.frame.allowance,
             first: self.first,
             count: self.count,
             room: self.room as usize,
@@ -173,142 +101,93 @@ impl Question {
     }
 }
 
-#[derive(Default)]
-struct List {
-    questions: String,
-    answers: String,
-    asked: u64,
-    numbers: Vec<u64>,
-}
-
-impl List {
-    fn ask(&mut self, question: Question) {
-        let question = Question {
-            seed: self.asked,
-            ..question
-        };
-        self.asked += 1;
-        self.questions += &question.line();
-        let answer = question.answer();
-        let number = answer.split(' ').next().expect("a row");
-        self.numbers.push(number.parse().expect("a number"));
-        self.answers += &answer;
-    }
-
-    /// Asks for a column of so many points from a first one on, into so many entries.
-    fn column(&mut self, file: Question, column: Column, [first, count, room]: [u64; 3]) {
-        self.ask(Question {
-            column: column as u64,
-            first,
-            count,
-            room,
-            ..file
-        });
-    }
+/// Asks for a column of so many points from a first one on, into so many entries.
+fn ask(list: &mut List, file: Question, column: Column, [first, count, room]: [u64; 3]) {
+    list.ask(Question {
+        column: column as u64,
+        first,
+        count,
+        room,
+        ..file
+    });
 }
 
 /// Files of every version and format: right behind one another, with padding, VLRs, a gap before the points
 /// and one behind them, extra bytes, waveform packets; without points; those of 1.4 with the legacy count,
 /// with the large one, with both, with EVLRs and with half a pair.
-fn files() -> [Question; 18] {
-    let file =
-        |minor, format, header_size, vlrs, offset, length, [legacy, large]: [u64; 2], after| {
-            let question = Question {
-                seed: 0,
-                minor,
-                header_size,
-                vlrs,
-                offset,
-                format,
-                length,
-                legacy,
-                large,
-                waveform: 0,
-                evlr_start: 0,
-                evlrs: 0,
-                point: 0,
-                place: 0,
-                bits: 0,
-                size: 0,
-                allowance: u64::MAX,
-                column: 0,
-                first: 1,
-                count: 0,
-                room: 0,
-            };
-            let size = question.end() + after;
-            Question { size, ..question }
-        };
+fn files() -> [Frame; 18] {
     [
-        file(0, 0, 227, 0, 227, 20, [1, 0], 0),
-        file(0, 1, 227, 1, 283, 28, [3, 0], 0),
-        file(1, 0, 230, 0, 230, 21, [4, 0], 2),
-        file(2, 0, 227, 0, 227, 20, [0, 0], 0),
-        file(2, 2, 227, 2, 340, 26, [2, 0], 0),
-        file(2, 2, 227, 0, 227, 27, [17, 0], 0),
-        file(2, 3, 300, 1, 354, 41, [5, 0], 7),
-        Question {
+        Frame::new((0, 0), (227, 0), (227, 20), [1, 0], 0),
+        Frame::new((0, 1), (227, 1), (283, 28), [3, 0], 0),
+        Frame::new((1, 0), (230, 0), (230, 21), [4, 0], 2),
+        Frame::new((2, 0), (227, 0), (227, 20), [0, 0], 0),
+        Frame::new((2, 2), (227, 2), (340, 26), [2, 0], 0),
+        Frame::new((2, 2), (227, 0), (227, 27), [17, 0], 0),
+        Frame::new((2, 3), (300, 1), (354, 41), [5, 0], 7),
+        Frame {
             waveform: 406,
-            ..file(3, 4, 235, 0, 235, 57, [3, 0], 70)
+            ..Frame::new((3, 4), (235, 0), (235, 57), [3, 0], 70)
         },
-        file(3, 5, 240, 1, 296, 64, [2, 0], 9),
-        file(4, 3, 375, 0, 375, 34, [0, 40], 0),
-        Question {
+        Frame::new((3, 5), (240, 1), (296, 64), [2, 0], 9),
+        Frame::new((4, 3), (375, 0), (375, 34), [0, 40], 0),
+        Frame {
             evlr_start: 700,
-            ..file(4, 5, 380, 1, 440, 66, [3, 9], 1)
+            ..Frame::new((4, 5), (380, 1), (440, 66), [3, 9], 1)
         },
-        file(4, 6, 375, 0, 375, 30, [0, 1], 0),
-        file(4, 6, 400, 2, 509, 33, [4, 4], 5),
-        Question {
+        Frame::new((4, 6), (375, 0), (375, 30), [0, 1], 0),
+        Frame::new((4, 6), (400, 2), (509, 33), [4, 4], 5),
+        Frame {
             evlrs: 7,
-            ..file(4, 7, 375, 0, 376, 36, [0, 3], 2)
+            ..Frame::new((4, 7), (375, 0), (376, 36), [0, 3], 2)
         },
-        Question {
+        Frame {
             evlr_start: 560,
             evlrs: 2,
-            ..file(4, 8, 375, 1, 429, 40, [3, 0], 140)
+            ..Frame::new((4, 8), (375, 1), (429, 40), [3, 0], 140)
         },
-        file(4, 9, 375, 0, 375, 59, [2, 1 << 33], 0),
-        file(4, 10, 375, 0, 375, 67, [0, 0], 3),
-        file(4, 10, 375, 0, 375, 70, [0, 9], 0),
+        Frame::new((4, 9), (375, 0), (375, 59), [2, 1 << 33], 0),
+        Frame::new((4, 10), (375, 0), (375, 67), [0, 0], 3),
+        Frame::new((4, 10), (375, 0), (375, 70), [0, 9], 0),
     ]
 }
 
 /// Makes the list afresh, and writes it into the folder or compares it with what the folder has.
 pub fn compare(tally: &mut Tally, folder: &Path, write: bool) -> io::Result<()> {
     let mut list = List::default();
-    for file in files() {
+    for frame in files() {
+        let file = Question {
+            seed: 0,
+            frame,
+            point: 0,
+            place: 0,
+            bits: 0,
+            column: 0,
+            first: 1,
+            count: 0,
+            room: 0,
+        };
         filled(&mut list, file);
         patterns(&mut list, file);
         index(&mut list, file);
         room(&mut list, file);
         order(&mut list, file);
-        if file.vlrs > 0 || file.waveform > 0 {
+        if frame.vlrs > 0 || frame.waveform > 0 {
             check(&mut list, file);
         }
     }
-    for number in [
+    let numbers = [
         0, 1, 3, 4, 5, 6, 7, 8, 9, 10, 11, 12, 13, 14, 22, 27, 35, 36,
-    ] {
-        assert!(list.numbers.contains(&number), "refusal {number}");
-    }
-    println!("replay list of columns: {}", list.asked);
-    replay::keep(
-        tally,
-        folder,
-        write,
-        list.questions.into_bytes(),
-        list.answers,
-    )
+    ];
+    list.keep("columns", &numbers, tally, folder, write)
 }
 
 /// Every column, or its refusal: all points, and those from the second on into more room.
 fn filled(list: &mut List, file: Question) {
-    let points = file.points();
+    let points = file.frame.count();
     for column in COLUMNS {
-        list.column(file, column, [1, points, points]);
+        ask(list, file, column, [1, points, points]);
         if points > 0 {
-            list.column(file, column, [2, points - 1, points + 2]);
+            ask(list, file, column, [2, points - 1, points + 2]);
         }
     }
 }
@@ -316,8 +195,8 @@ fn filled(list: &mut List, file: Question) {
 /// Patterns that do not stay where they are taken for numbers: coordinates at their ends, every sort of time,
 /// near infrared 0.
 fn patterns(list: &mut List, file: Question) {
-    let points = file.points();
-    let time = if file.format < 6 { 20 } else { 22 };
+    let points = file.frame.count();
+    let time = if file.frame.format < 6 { 20 } else { 22 };
     let times = [
         0x7ff0_0000_0000_0001,
         0xfff8_0000_dead_beef,
@@ -332,8 +211,8 @@ fn patterns(list: &mut List, file: Question) {
         .flat_map(|bits| [(Time, time, bits), (TimeBits, time, bits)]);
     for (column, place, bits) in coordinates.into_iter().chain(near_infrared).chain(times) {
         let lacks = match column {
-            Time | TimeBits => [0, 2].contains(&file.format),
-            Nir | Blue => file.format < 7 || file.format == 9,
+            Time | TimeBits => [0, 2].contains(&file.frame.format),
+            Nir | Blue => file.frame.format < 7 || file.frame.format == 9,
             _ => false,
         };
         if points == 0 || lacks {
@@ -345,13 +224,13 @@ fn patterns(list: &mut List, file: Question) {
             bits,
             ..file
         };
-        list.column(told, column, [points, 1, 2]);
+        ask(list, told, column, [points, 1, 2]);
     }
 }
 
 /// Stretches on both sides of the points, and those that fewer bits or a sum that wraps would let in.
 fn index(list: &mut List, file: Question) {
-    let points = file.points();
+    let points = file.frame.count();
     for (first, count) in [
         (0, 0),
         (0, 1),
@@ -365,28 +244,28 @@ fn index(list: &mut List, file: Question) {
         (u64::MAX, 0),
         (1 + (1 << 32), 1),
         (1, 1 << 32),
-        (u64::MAX / file.length + 2, 1),
+        (u64::MAX / file.frame.length + 2, 1),
     ] {
-        list.column(file, Y, [first, count, points + 1]);
+        ask(list, file, Y, [first, count, points + 1]);
     }
 }
 
 /// One entry too few, and none.
 fn room(list: &mut List, file: Question) {
-    let points = file.points();
+    let points = file.frame.count();
     if points > 0 {
-        list.column(file, X, [1, points, points - 1]);
-        list.column(file, Z, [points, 1, 0]);
+        ask(list, file, X, [1, points, points - 1]);
+        ask(list, file, Z, [points, 1, 0]);
     }
 }
 
 /// Each refusal together with those that come later.
 fn order(list: &mut List, file: Question) {
-    let points = file.points();
+    let points = file.frame.count();
     for column in [X, Time, Nir] {
-        list.column(file, column, [0, u64::MAX, 0]);
-        list.column(file, column, [1, points + 1, points]);
-        list.column(file, column, [1, points, points / 2]);
+        ask(list, file, column, [0, u64::MAX, 0]);
+        ask(list, file, column, [1, points + 1, points]);
+        ask(list, file, column, [1, points, points / 2]);
     }
 }
 
@@ -399,47 +278,7 @@ fn check(list: &mut List, file: Question) {
         room: 1,
         ..file
     };
-    for size in [0, 226, file.offset - 1, file.end() - 1] {
-        list.ask(Question { size, ..worst });
-    }
-    list.ask(Question { minor: 5, ..worst });
-    let standard = standard_size(file.minor.into()) as u64;
-    list.ask(Question {
-        header_size: standard - 1,
-        ..worst
-    });
-    for format in [11, 128] {
-        list.ask(Question { format, ..worst });
-    }
-    let bare = POINT_BYTES[file.format as usize] as u64;
-    list.ask(Question {
-        length: bare - 1,
-        ..worst
-    });
-    list.ask(Question {
-        vlrs: file.vlrs + 1,
-        allowance: file.vlrs,
-        ..worst
-    });
-    list.ask(Question { vlrs: 90, ..worst });
-    match file.minor {
-        3 => {
-            for waveform in [file.end() - 1, file.end(), file.size, file.size + 1] {
-                list.ask(Question { waveform, ..worst });
-            }
-        }
-        4 => {
-            for evlr_start in [file.end() - 1, file.end(), file.size, file.size + 1] {
-                list.ask(Question {
-                    evlr_start,
-                    evlrs: 1,
-                    ..worst
-                });
-            }
-        }
-        minor => list.ask(Question {
-            format: if minor == 2 { 4 } else { 2 },
-            ..worst
-        }),
+    for frame in file.frame.refused() {
+        list.ask(Question { frame, ..worst });
     }
 }
