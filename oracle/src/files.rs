@@ -70,6 +70,56 @@ impl fmt::Display for Patch {
     }
 }
 
+/// What a file is to be of: lengths in bytes, and those of the data of each record before and after the points.
+pub struct Plan {
+    /// Minor version and format.
+    pub kind: (u8, u8),
+    pub padding: usize,
+    pub vlrs: Vec<usize>,
+    pub before_points: usize,
+    pub extra: usize,
+    pub points: u64,
+    pub after_points: usize,
+    pub later: Vec<usize>,
+    pub after: usize,
+}
+
+impl Plan {
+    /// Any plan for a file of a kind, a small one or a long one.
+    fn some(random: &mut Lcg, kind: (u8, u8), long: bool) -> Plan {
+        let (minor, format) = kind;
+        let standard = standard_size(minor.into()) as usize;
+        let format_length = POINT_BYTES[usize::from(format)] as usize;
+        let hundreds = long && random.one_in(2);
+        let most: usize = if long && !hundreds { 65_535 } else { 0 };
+        // The fields are drawn in their order.
+        Plan {
+            kind,
+            padding: some(random, 20, most.saturating_sub(standard)),
+            vlrs: {
+                let vlrs = match hundreds {
+                    true => random.below(1_250),
+                    false => [0, 0, 0, 1, 1, 2, 3, 4, 5][random.below(9) as usize],
+                };
+                (0..vlrs).map(|_| some(random, 16, most)).collect()
+            },
+            before_points: some(random, 6, most),
+            extra: some(random, 5, most.saturating_sub(format_length)),
+            points: random.below(6),
+            after_points: some(random, 6, most),
+            later: {
+                let later = match minor {
+                    3 => random.below(2),
+                    4 => random.below(4),
+                    _ => 0,
+                };
+                (0..later).map(|_| some(random, 16, 2 * most)).collect()
+            },
+            after: some(random, 9, most),
+        }
+    }
+}
+
 /// A whole file, and where its parts are, so that damage can be aimed.
 #[derive(Default)]
 pub struct Whole {
@@ -78,14 +128,14 @@ pub struct Whole {
     format: u8,
     header_size: usize,
     /// Where each VLR starts, and how long its data are.
-    vlrs: Vec<(usize, usize)>,
+    pub vlrs: Vec<(usize, usize)>,
     vlr_end: usize,
     point_offset: usize,
     record_length: usize,
     points: u64,
     point_end: usize,
     /// The same of the records after the points: the EVLRs, or in 1.3 the waveform packets.
-    later: Vec<(usize, usize)>,
+    pub later: Vec<(usize, usize)>,
 }
 
 impl Whole {
@@ -99,43 +149,33 @@ impl Whole {
     /// The same of some versions and formats.
     pub fn make_of(&mut self, i: u64, long: bool, kinds: &[(u8, u8)]) {
         let mut random = Lcg::new(i | u64::from(long) << 63);
-        (self.minor, self.format) = kinds[(i % kinds.len() as u64) as usize];
-        let standard = standard_size(self.minor.into()) as usize;
-        let format_length = POINT_BYTES[usize::from(self.format)] as usize;
-        let hundreds = long && random.one_in(2);
-        let most: usize = if long && !hundreds { 65_535 } else { 0 };
+        let kind = kinds[(i % kinds.len() as u64) as usize];
+        let plan = Plan::some(&mut random, kind, long);
+        self.make_as(&plan, &mut random);
+    }
 
+    /// Makes a file as it is planned. What the plan doesn't say is without pattern.
+    pub fn make_as(&mut self, plan: &Plan, random: &mut Lcg) {
         // Where everything stands.
-        self.header_size = standard + some(&mut random, 20, most.saturating_sub(standard));
-        let vlrs = match hundreds {
-            true => random.below(1_250),
-            false => [0, 0, 0, 1, 1, 2, 3, 4, 5][random.below(9) as usize],
-        };
+        (self.minor, self.format) = plan.kind;
+        self.header_size = standard_size(self.minor.into()) as usize + plan.padding;
         self.vlr_end = self.header_size;
         self.vlrs.clear();
-        for _ in 0..vlrs {
-            let length = some(&mut random, 16, most);
+        for &length in &plan.vlrs {
             self.vlrs.push((self.vlr_end, length));
             self.vlr_end += 54 + length;
         }
-        self.point_offset = self.vlr_end + some(&mut random, 6, most);
-        let extra = some(&mut random, 5, most.saturating_sub(format_length));
-        self.record_length = format_length + extra;
-        self.points = random.below(6);
+        self.point_offset = self.vlr_end + plan.before_points;
+        self.record_length = POINT_BYTES[usize::from(self.format)] as usize + plan.extra;
+        self.points = plan.points;
         self.point_end = self.point_offset + self.points as usize * self.record_length;
-        let mut at = self.point_end + some(&mut random, 6, most);
+        let mut at = self.point_end + plan.after_points;
         self.later.clear();
-        let later = match self.minor {
-            3 => random.below(2),
-            4 => random.below(4),
-            _ => 0,
-        };
-        for _ in 0..later {
-            let length = some(&mut random, 16, 2 * most);
+        for &length in &plan.later {
             self.later.push((at, length));
             at += 60 + length;
         }
-        at += some(&mut random, 9, most);
+        at += plan.after;
 
         // What is in it.
         self.bytes.resize(at, 0);
@@ -145,7 +185,7 @@ impl Whole {
         self.put(25, 1, self.minor);
         self.put(94, 2, self.header_size as u64);
         self.put(96, 4, self.point_offset as u64);
-        self.put(100, 4, vlrs);
+        self.put(100, 4, self.vlrs.len() as u64);
         self.put(104, 1, self.format);
         self.put(105, 2, self.record_length as u64);
         self.put(107, 4, self.points);
@@ -153,8 +193,8 @@ impl Whole {
             self.put(131 + 8 * float, 8, random.f64_bits());
         }
         match self.minor {
-            3 => self.fill_packets(&mut random),
-            4 => self.fill_large(&mut random),
+            3 => self.fill_packets(random),
+            4 => self.fill_large(random),
             _ => {}
         }
         for k in 0..self.vlrs.len() {
@@ -166,7 +206,7 @@ impl Whole {
             self.put(at + 20, 8, length as u64);
         }
         let format = Format {
-            extra_bytes: extra as u16,
+            extra_bytes: plan.extra as u16,
             ..Format::new(self.format).expect("a format from 0 to 10")
         };
         let points = &mut self.bytes[self.point_offset..self.point_end];
