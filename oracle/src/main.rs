@@ -1,14 +1,14 @@
 //! Runs every comparison and says whether nothing differed.
 
 use oracle::{
-    angle, append, column, convert, convert_plain, file, flags, format, header, listings, migrate,
-    nir, point, reclassify, replay, replay_append, replay_column, replay_migrate,
-    replay_reclassify, replay_records, report::Tally, strict, vlr,
+    angle, append, attribute, column, convert, convert_plain, file, flags, format, header,
+    listings, migrate, nir, point, reclassify, replay, replay_append, replay_attribute,
+    replay_column, replay_migrate, replay_reclassify, replay_records, report::Tally, strict, vlr,
 };
 use std::{env, fs, io, path::Path, process::ExitCode};
 
 /// What there is to compare, by the name that it is asked for by.
-const SUBJECTS: [&str; 16] = [
+const SUBJECTS: [&str; 17] = [
     "format",
     "flags",
     "angle",
@@ -17,6 +17,7 @@ const SUBJECTS: [&str; 16] = [
     "header",
     "file",
     "column",
+    "attribute",
     "append",
     "reclassify",
     "strict",
@@ -40,6 +41,7 @@ fn compare(crates: &Path, write: bool, asked: &[String]) -> io::Result<bool> {
         ("header", header::compare),
         ("file", file::compare),
         ("column", column::compare),
+        ("attribute", attribute::compare),
         ("append", append::compare),
         ("reclassify", reclassify::compare),
         ("strict", strict::compare),
@@ -59,6 +61,7 @@ fn compare(crates: &Path, write: bool, asked: &[String]) -> io::Result<bool> {
         replay_records::compare(&mut tally, &crates.join("replay_records"), write)?;
         listings::compare(&mut tally, &crates.join("listings"), write)?;
         replay_column::compare(&mut tally, &crates.join("../c/replay_column"), write)?;
+        replay_attribute::compare(&mut tally, &crates.join("../c/replay_attribute"), write)?;
         replay_append::compare(&mut tally, &crates.join("../c/replay"), write)?;
         replay_migrate::compare(&mut tally, &crates.join("../c/replay_migrate"), write)?;
         replay_reclassify::compare(&mut tally, &crates.join("../c/replay_reclassify"), write)?;
