@@ -189,8 +189,8 @@ pub fn find(
 const FURTHEST: u64 = i64::MAX as u64;
 
 /// The attribute at a place, its descriptor, and the place after it, whatever the place holds. None where none is
-/// left, and at one that no file tells of: its descriptor is not all there or is of a type above 10, or its first
-/// value is further than any file's.
+/// left, and at one that no file has: its descriptor is not all there, or its first value is further than any
+/// file's. A type above 10, which no call leads to, has no bytes.
 pub fn next(
     file: &[u8],
     place: AttributesPlace,
@@ -199,7 +199,7 @@ pub fn next(
     let left = left.checked_sub(1)?;
     let from = usize::try_from(at).ok()?;
     let descriptor = file.get(from..)?.get(..DESCRIPTOR)?;
-    let size = size(descriptor[2], descriptor[3])?;
+    let size = size(descriptor[2], descriptor[3]).unwrap_or(0);
     (first <= FURTHEST).then_some((
         [descriptor[2].into(), size, first, stride, count],
         [at, DESCRIPTOR as u64],

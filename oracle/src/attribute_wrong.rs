@@ -103,7 +103,8 @@ errors! {
     NextStays,
     NextCountsNothing,
     NextWithNoneLeft,
-    NextOfAnyType,
+    NextNotOfType11,
+    NextOfOneByteAbove10,
     NextWithoutItsEnd,
     NextNotAtTheVeryEnd,
     NextPlacesWrap,
@@ -720,7 +721,9 @@ impl Library for StandIn {
         };
         let (data_type, options) = self.kind(&[0, 0, byte(2), byte(3)]);
         let size = match self.width(data_type, options) {
-            None if self.has(NextOfAnyType) => Some(0),
+            None if self.has(NextNotOfType11) => None,
+            None if self.has(NextOfOneByteAbove10) => Some(1),
+            None => Some(0),
             size => size,
         };
         let furthest = match () {
