@@ -1161,6 +1161,70 @@ fn some_byte(random: &mut Lcg) -> u8 {
     }
 }
 
+/// A file of 1.4 with one descriptor, and one point of format 6 with so many extra bytes.
+fn one_told(data_type: u8, options: u8, name: &[u8], extra: u64) -> Vec<u8> {
+    const OFFSET: u64 = 375 + 54 + DESCRIPTOR as u64;
+    let length = 30 + extra;
+    let mut file = plain(
+        (OFFSET + length) as usize,
+        [4, 375, OFFSET, 6, length, 1],
+        &[],
+    );
+    file[100] = 1;
+    file[375 + 2..][..9].copy_from_slice(USER);
+    file[375 + 18..][..4].copy_from_slice(&[4, 0, DESCRIPTOR as u8, 0]);
+    file[375 + 54 + 2..][..2].copy_from_slice(&[data_type, options]);
+    file[375 + 54 + 4..][..name.len()].copy_from_slice(name);
+    Lcg::new(extra).fill(&mut file[OFFSET as usize + 30..]);
+    file
+}
+
+/// Every data type with every options, in a file with one extra byte less than the value has, as many, and one more.
+fn every_type<L: Library>(library: &L, lot: Lot) -> Outcome {
+    over(library, (1 << 16) / lot.step, |comparison, i| {
+        let [data_type, options] = ((i * lot.step) as u16).to_le_bytes();
+        let size = model::size(data_type, options).unwrap_or(0);
+        for extra in [size.saturating_sub(1), size, size + 1] {
+            let file = one_told(data_type, options, b"a", extra);
+            let told = || format!("type {data_type}, options {options}, {extra} extra bytes");
+            comparison.take(&file);
+            comparison.attributes(1, &told);
+            if let Some(attribute) = comparison.find(1, b"a", &told) {
+                comparison.value(attribute, 1, &told);
+                comparison.value(attribute, 2, &told);
+            }
+            comparison.leave(&told);
+        }
+    })
+}
+
+/// Names of every length from 0 to 32, looked for by every length from 0 to 33, with zeros behind it, with one byte
+/// changed to 0, and with the byte changed that only one of them has.
+fn every_length<L: Library>(library: &L) -> Outcome {
+    over(library, 33, |comparison, length| {
+        let letters = [b'n'; 33];
+        let length = length as usize;
+        let told = || format!("a name of {length} bytes");
+        let mut lookup = |stored: &[u8], asked: &[u8]| {
+            comparison.take(&one_told(1, 0, stored, 1));
+            comparison.find(u64::MAX, asked, &told);
+        };
+        for asked in 0..=33 {
+            lookup(&letters[..length], &letters[..asked]);
+            let zeros = [&letters[..length], &vec![0; asked]].concat();
+            lookup(&letters[..length], &zeros);
+            if let Some(at) = asked.checked_sub(1).filter(|&at| at < length) {
+                let mut holed = letters;
+                holed[at] = 0;
+                lookup(&holed[..length], &holed[..length]);
+                lookup(&holed[..length], &letters[..length]);
+                lookup(&letters[..length], &holed[..length]);
+                lookup(&holed[..length], &holed[..at]);
+            }
+        }
+    })
+}
+
 /// Every data type with every options: read of 192 bytes, of fewer and of more, and written into enough room, too
 /// little and more, with numbers wider than their fields.
 fn descriptors<L: Library>(library: &L, lot: Lot) -> Outcome {
@@ -1535,6 +1599,8 @@ pub fn compare_stand_ins() -> Report {
         whole(library, FEW).agrees()
             && damaged(library, FEW).agrees()
             && long(library, FEW).agrees()
+            && every_type(library, FEW).agrees()
+            && every_length(library).agrees()
             && descriptors(library, FEW).agrees()
             && far(library).agrees()
     };
@@ -1551,6 +1617,8 @@ pub fn compare_library(tally: &mut Tally, library: &impl Library) {
     let outcome = whole(library, FULL)
         .and(long(library, FULL))
         .and(damaged(library, FULL))
+        .and(every_type(library, FULL))
+        .and(every_length(library))
         .and(descriptors(library, FULL));
     for (k, report) in (0..).zip(outcome.reports) {
         match k {
