@@ -24,6 +24,7 @@ pub mod append;
 pub mod append_model;
 pub mod append_wrong;
 pub mod attribute;
+pub mod attribute_files;
 pub mod attribute_model;
 pub mod attribute_wrong;
 pub mod call;
