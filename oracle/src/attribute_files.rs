@@ -350,6 +350,9 @@ pub fn made_up(random: &mut Lcg, like: [u64; 5], file: u64) -> [u64; 5] {
         let [_, _, at, stride, count] = numbers;
         let last = at.wrapping_add(count.wrapping_sub(1).wrapping_mul(stride));
         numbers[k] = match random.below(14) {
+            _ if k == 3 && random.one_in(3) => {
+                [19, 20, 21, 65_534, 65_535, 65_536][random.below(6) as usize]
+            }
             0 => 0,
             1 => 1,
             2 => u64::MAX,

@@ -207,11 +207,13 @@ pub fn next(
     ))
 }
 
-/// Where the value of a point is, the first being 1, if it is in the file: "index", 27 with the point count.
+/// Where the value of a point is, the first being 1, if it is in the file: "index", 27 with the point count. From one
+/// point's to the next one's is a record, of 20 to 65,535 bytes.
 fn span(file: &[u8], attribute: AttributeNumbers, point: u64) -> Result<Span, Answer> {
     let [_, size, at, stride, count] = attribute;
     let index = Err(Answer::refusal(27, count));
-    if !(1..=count).contains(&point) {
+    let least = POINT_BYTES[0] as u64;
+    if !(1..=count).contains(&point) || !(least..=u16::MAX.into()).contains(&stride) {
         return index;
     }
     let start = u128::from(at) + u128::from(point - 1) * u128::from(stride);

@@ -133,6 +133,10 @@ errors! {
     StartInsideIsEnough,
     VeryEndRefused,
     MadeUpTypeRefused,
+    StrideOf19Taken,
+    StrideOf20Refused,
+    StrideOf65535Refused,
+    StrideOf65536Taken,
     BitsOfEightBytes,
     BitsOfFourBytes,
     BitsOfTheLastEight,
@@ -546,7 +550,17 @@ impl StandIn {
             () => count,
         };
         let index = point.wrapping_sub(1);
+        let strides = match () {
+            () if self.has(StrideOf19Taken) => 19..=0xffff,
+            () if self.has(StrideOf20Refused) => 21..=0xffff,
+            () if self.has(StrideOf65535Refused) => 20..=0xfffe,
+            () if self.has(StrideOf65536Taken) => 20..=0x1_0000,
+            () => 20..=0xffff,
+        };
         if index >= most || data_type > 10 && self.has(MadeUpTypeRefused) {
+            return Err([27, value, record]);
+        }
+        if !strides.contains(&stride) {
             return Err([27, value, record]);
         }
         let index = match self.has(NextPointsValue) && point < count {
