@@ -1,0 +1,105 @@
+-- Laws of what is asked of every entry, and of the place of a key.
+use Prim.Native.Nat.{ℕ, zero, suc, _+_, _*_, _-_, _≤_, _<_}
+use mathlib.Core.Path.{_≡_, refl, ap, sym, _∙_}
+use mathlib.Core.Bool.{Bool, true, false, _&&_}
+use mathlib.Core.List.{List}
+use native.Mathlib.Numerals.{add-one}
+use native.Mathlib.Omega.{arith}
+use borrow.Author.Tests.{leb-true, leb-false, eq-eqb, ne-eqb, lt-ltb, le-ltb}
+use lib.Dec.{leb}
+use lib.ListN.{length}
+use Rattle.refusal.specs.declared.Refusal.the-variants.{DirectoryShort, KeysNotRising, UnknownLocation, TargetAbsent, TargetBeyond}
+use Rattle.directory.specs.declared.Target.{Target}
+use Rattle.directory.specs.declared.Question.{Question}
+use Rattle.directory.specs.declared.Question.the-variants.{Rising, Known, There, Within}
+use Rattle.directory.specs.declared.Judged.the-variants.{Keys, Refused}
+use Rattle.directory.specs.Directory.{countOf, passes, every, judgedOf, placeFrom}
+
+module _ (f : ℕ → Bool) where
+  pub every-passes : (n : ℕ) → ((k : ℕ) → k < n → f k ≡ true) → every f n ≡ true
+  unfolding every
+  every-passes zero h = refl
+  every-passes (suc n) h = rw (every-passes n (λ k l. h k (omega arith)), h n (omega arith))
+
+  pub one-fails : (n k : ℕ) → k < n → f k ≡ false → every f n ≡ false
+  unfolding every
+  one-fails zero k h e = absurd (omega arith)
+  one-fails (suc n) k h e = go (leb (suc k) n) refl (λ l. one-fails n k l e)
+    where
+      none : (b : Bool) → (b && false) ≡ false
+      none true = refl
+      none false = refl
+
+      go : (b : Bool) → leb (suc k) n ≡ b → (k < n → every f n ≡ false) → (every f n && f n) ≡ false
+      go true t before = rw (before (leb-true (suc k) n t))
+      go false t before = let same : k ≡ n = omega (arith, leb-false (suc k) n t) in rw (← same, e) (none (every f k))
+
+  pub all-pass : (n : ℕ) → every f n ≡ true → (k : ℕ) → k < n → f k ≡ true
+  all-pass n all k h = go (f k) refl
+    where
+      go : (b : Bool) → f k ≡ b → b ≡ true
+      go true e = refl
+      go false e = let no = one-fails n k h e in let z : _≡_ {A = ℕ} 0 1 = cc in absurd (omega arith)
+
+  -- what holds of each before k, and of k, holds of each before the next
+  pub one-more : (k : ℕ) → ((j : ℕ) → j < k → f j ≡ true) → f k ≡ true → (j : ℕ) → j < k + 1 → f j ≡ true
+  one-more k before e j h = go (leb (suc j) k) refl
+    where
+      go : (b : Bool) → leb (suc j) k ≡ b → f j ≡ true
+      go true t = before j (leb-true (suc j) k t)
+      go false t = let same : j ≡ k = omega (arith, leb-false (suc j) k t) in rw same e
+
+-- the place of a number among n: a search that has come to k
+module _ (f : ℕ → ℕ) (x n k : ℕ) where
+  here : (m : ℕ) → 0 < m → f k ≡ x → placeFrom f x k m ≡ k
+  unfolding placeFrom
+  here zero h e = absurd (omega arith)
+  here (suc m) h e = rw (eq-eqb _ _ e)
+
+  further : (m : ℕ) → 0 < m → (f k ≡ x → ⊥) → placeFrom f x k m ≡ placeFrom f x (suc k) (m - 1)
+  unfolding placeFrom
+  further zero h e = absurd (omega arith)
+  further (suc m) h e = let less : suc m - 1 ≡ m = omega arith in rw (ne-eqb _ _ e, less)
+
+  pub found : k < n → f k ≡ x → placeFrom f x k (n - k) ≡ k
+  found h e = here (n - k) (omega arith) e
+
+  pub passed : k < n → (f k ≡ x → ⊥) → placeFrom f x k (n - k) ≡ placeFrom f x (k + 1) (n - (k + 1))
+  passed h e = let less : n - k - 1 ≡ n - suc k = omega arith in rw add-one (further (n - k) (omega arith) e ∙ rw less)
+
+  pub ended : n ≤ k → placeFrom f x k (n - k) ≡ k
+  unfolding placeFrom
+  ended h = let none : n - k ≡ 0 = omega arith in rw none
+
+-- the refusals of a directory in their order, and where there is none
+module _ (d : List ℕ) (doubles text : Target) where
+  abbrev pub all : Question → Bool
+  all q = every (passes q doubles text d) (countOf d)
+
+  pub then-short : length d < 8 + 8 * countOf d → judgedOf d doubles text ≡ Refused DirectoryShort
+  unfolding judgedOf
+  then-short h = rw (lt-ltb _ _ h)
+
+  module _ (long : 8 + 8 * countOf d ≤ length d) where
+    pub then-falling : all Rising ≡ false → judgedOf d doubles text ≡ Refused KeysNotRising
+    unfolding judgedOf
+    then-falling e = rw (le-ltb _ _ long, e)
+
+    module _ (rising : all Rising ≡ true) where
+      pub then-unknown : all Known ≡ false → judgedOf d doubles text ≡ Refused UnknownLocation
+      unfolding judgedOf
+      then-unknown e = rw (le-ltb _ _ long, rising, e)
+
+      module _ (known : all Known ≡ true) where
+        pub then-absent : all There ≡ false → judgedOf d doubles text ≡ Refused TargetAbsent
+        unfolding judgedOf
+        then-absent e = rw (le-ltb _ _ long, rising, known, e)
+
+        module _ (there : all There ≡ true) where
+          pub then-beyond : all Within ≡ false → judgedOf d doubles text ≡ Refused TargetBeyond
+          unfolding judgedOf
+          then-beyond e = rw (le-ltb _ _ long, rising, known, there, e)
+
+          pub then-sound : all Within ≡ true → judgedOf d doubles text ≡ Keys (countOf d)
+          unfolding judgedOf
+          then-sound e = rw (le-ltb _ _ long, rising, known, there, e)

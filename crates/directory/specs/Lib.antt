@@ -1,0 +1,4 @@
+-- definitions
+pub mod Directory
+-- laws
+pub mod Laws
