@@ -1,19 +1,19 @@
 -- Laws of what is asked of every entry, and of the place of a key.
 use Prim.Native.Nat.{ℕ, zero, suc, _+_, _*_, _-_, _≤_, _<_}
 use mathlib.Core.Path.{_≡_, refl, ap, sym, _∙_}
-use mathlib.Core.Bool.{Bool, true, false, _&&_}
+use mathlib.Core.Bool.{Bool, true, false, cond, _&&_}
 use mathlib.Core.List.{List}
 use native.Mathlib.Numerals.{add-one}
 use native.Mathlib.Omega.{arith}
 use borrow.Author.Tests.{leb-true, leb-false, eq-eqb, ne-eqb, lt-ltb, le-ltb}
-use lib.Dec.{leb}
+use lib.Dec.{leb, eqb}
 use lib.ListN.{length}
 use Rattle.refusal.specs.declared.Refusal.the-variants.{DirectoryShort, KeysNotRising, UnknownLocation, TargetAbsent, TargetBeyond}
 use Rattle.directory.specs.declared.Target.{Target}
 use Rattle.directory.specs.declared.Question.{Question}
 use Rattle.directory.specs.declared.Question.the-variants.{Rising, Known, There, Within}
 use Rattle.directory.specs.declared.Judged.the-variants.{Keys, Refused}
-use Rattle.directory.specs.Directory.{countOf, passes, every, judgedOf, placeFrom}
+use Rattle.directory.specs.Directory.{countOf, bytesOf, passes, every, judgedOf, placeFrom}
 
 module _ (f : ℕ → Bool) where
   pub every-passes : (n : ℕ) → ((k : ℕ) → k < n → f k ≡ true) → every f n ≡ true
@@ -103,3 +103,11 @@ module _ (d : List ℕ) (doubles text : Target) where
           pub then-sound : all Within ≡ true → judgedOf d doubles text ≡ Keys (countOf d)
           unfolding judgedOf
           then-sound e = rw (le-ltb _ _ long, rising, known, there, e)
+
+-- the bytes of values, and of others after them
+pub bytes-add : (location m n : ℕ) → bytesOf location (m + n) ≡ bytesOf location m + bytesOf location n
+bytes-add location m n = go (eqb location 34736)
+  where
+    go : (b : Bool) → cond b (8 * (m + n)) (m + n) ≡ cond b (8 * m) m + cond b (8 * n) n
+    go true = omega arith
+    go false = refl
