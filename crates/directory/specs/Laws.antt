@@ -1,19 +1,19 @@
 -- Laws of what is asked of every entry, and of the place of a key.
 use Prim.Native.Nat.{ℕ, zero, suc, _+_, _*_, _-_, _≤_, _<_}
 use mathlib.Core.Path.{_≡_, refl, ap, sym, _∙_}
-use mathlib.Core.Bool.{Bool, true, false, cond, _&&_}
+use mathlib.Core.Bool.{Bool, true, false, cond, _&&_, _||_}
 use mathlib.Core.List.{List}
 use native.Mathlib.Numerals.{add-one}
 use native.Mathlib.Omega.{arith}
-use borrow.Author.Tests.{leb-true, leb-false, eq-eqb, ne-eqb, lt-ltb, le-ltb}
-use lib.Dec.{leb, eqb}
+use borrow.Author.Tests.{leb-true, leb-false, ltb-true, eq-eqb, ne-eqb, lt-ltb, le-ltb}
+use lib.Dec.{ltb, leb, eqb}
 use lib.ListN.{length}
 use Rattle.refusal.specs.declared.Refusal.the-variants.{DirectoryShort, KeysNotRising, UnknownLocation, TargetAbsent, TargetBeyond}
 use Rattle.directory.specs.declared.Target.{Target}
 use Rattle.directory.specs.declared.Question.{Question}
 use Rattle.directory.specs.declared.Question.the-variants.{Rising, Known, There, Within}
 use Rattle.directory.specs.declared.Judged.the-variants.{Keys, Refused}
-use Rattle.directory.specs.Directory.{countOf, bytesOf, passes, every, judgedOf, placeFrom}
+use Rattle.directory.specs.Directory.{countOf, risingAt, bytesOf, passes, every, judgedOf, placeFrom}
 
 module _ (f : ℕ → Bool) where
   pub every-passes : (n : ℕ) → ((k : ℕ) → k < n → f k ≡ true) → every f n ≡ true
@@ -48,6 +48,21 @@ module _ (f : ℕ → Bool) where
       go : (b : Bool) → leb (suc j) k ≡ b → f j ≡ true
       go true t = before j (leb-true (suc j) k t)
       go false t = let same : j ≡ k = omega (arith, leb-false (suc j) k t) in rw same e
+
+-- rising keys, by the test and by their order
+module _ (key : ℕ → ℕ) (k : ℕ) where
+  pub rises : key (k - 1) < key k → risingAt key k ≡ true
+  rises h = go (eqb k 0)
+    where
+      go : (b : Bool) → (b || ltb (key (k - 1)) (key k)) ≡ true
+      go true = refl
+      go false = lt-ltb _ _ h
+
+  pub falls : 0 < k → key k ≤ key (k - 1) → risingAt key k ≡ false
+  falls h e = rw (ne-eqb k 0 (λ z. omega arith), le-ltb _ _ e)
+
+  pub rising-says : 0 < k → risingAt key k ≡ true → key (k - 1) < key k
+  rising-says h e = ltb-true _ _ (rw (ne-eqb k 0 (λ z. omega arith)) at e)
 
 -- the place of a number among n: a search that has come to k
 module _ (f : ℕ → ℕ) (x n k : ℕ) where

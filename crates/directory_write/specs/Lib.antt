@@ -1,0 +1,4 @@
+-- definitions
+pub mod Written
+-- laws
+pub mod Laws
