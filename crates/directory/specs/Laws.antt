@@ -3,6 +3,7 @@ use Prim.Native.Nat.{ℕ, zero, suc, _+_, _*_, _-_, _≤_, _<_}
 use mathlib.Core.Path.{_≡_, refl, ap, sym, _∙_}
 use mathlib.Core.Bool.{Bool, true, false, cond, _&&_, _||_}
 use mathlib.Core.List.{List}
+use mathlib.Core.Logic.{_⊎_, inl, inr}
 use native.Mathlib.Numerals.{add-one}
 use native.Mathlib.Omega.{arith}
 use borrow.Author.Tests.{leb-true, leb-false, ltb-true, eq-eqb, ne-eqb, lt-ltb, le-ltb}
@@ -48,6 +49,16 @@ module _ (f : ℕ → Bool) where
       go : (b : Bool) → leb (suc j) k ≡ b → f j ≡ true
       go true t = before j (leb-true (suc j) k t)
       go false t = let same : j ≡ k = omega (arith, leb-false (suc j) k t) in rw same e
+
+  -- each passes, or one fails
+  pub decided : (n : ℕ) → ((k : ℕ) → k < n → f k ≡ true) ⊎ ((k : ℕ) × (k < n) × (f k ≡ false))
+  decided zero = inl (λ k h. absurd (omega arith))
+  decided (suc n) = go (f n) refl (decided n)
+    where
+      go : (b : Bool) → f n ≡ b → ((k : ℕ) → k < n → f k ≡ true) ⊎ ((k : ℕ) × (k < n) × (f k ≡ false)) → ((k : ℕ) → k < suc n → f k ≡ true) ⊎ ((k : ℕ) × (k < suc n) × (f k ≡ false))
+      go true e (inl all) = inl (λ k h. one-more n all e k (omega arith))
+      go true e (inr (k, h, bad)) = inr (k, omega arith, bad)
+      go false e rest = inr (n, omega arith, e)
 
 -- rising keys, by the test and by their order
 module _ (key : ℕ → ℕ) (k : ℕ) where

@@ -2,3 +2,4 @@
 pub mod Directory
 -- laws
 pub mod Laws
+pub mod Order
