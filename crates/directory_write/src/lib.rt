@@ -16,13 +16,14 @@ pub fn write(keys: &[u16], dst: &mut [u8]) -> Wrote
     ensures { λ r. ⌜ (r, now (dst .exit)) ≡ writtenOf (now (keys .entry)) (now (dst .entry)) ⌝ }
 {
     let n = keys.len() / 4;
-    if !all_rising(keys, n) {
+    let wanted = 8 + 8 * n;
+    let rising = all_rising(keys, n);
+    if !rising {
         return Wrote::Refused(Refusal::KeysNotRising);
     }
     if 8190 < n {
         return Wrote::Refused(Refusal::TooManyKeys);
     }
-    let wanted = 8 + 8 * n;
     if dst.len() < wanted {
         return Wrote::Refused(Refusal::NoRoom(wanted as u64));
     }

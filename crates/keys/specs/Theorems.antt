@@ -3,13 +3,17 @@
 use Prim.Native.Nat.{ℕ, _+_, _*_, _≤_, _<_}
 use mathlib.Core.Path.{_≡_, refl, ap, sym, _∙_}
 use mathlib.Core.Bool.{Bool, true, false, cond}
-use mathlib.Core.List.{List}
+use mathlib.Core.List.{List, _++_}
 use mathlib.Core.Logic.{_↔_}
 use native.Mathlib.Omega.{arith}
 use Rattle.refusal.specs.declared.Refusal.{Refusal}
 use Rattle.first_vlr.specs.declared.FirstVlr.the-variants as first
 use Rattle.directory.specs.declared.Entry.{Entry}
 use Rattle.directory.specs.Directory.{countOf, keyOf, entryOf, passes}
+use Rattle.directory_write.specs.Written.{givenCount, givenKey, directoryBytes}
+use Rattle.directory_write.specs.Exact.{givenEntry}
+use Rattle.directory_write.specs.Back as back
+use Rattle.directory_write.specs.Back.{Words}
 use Rattle.keys.specs.declared.Keys.{Keys}
 use Rattle.keys.specs.declared.Opened.the-variants as opened
 use Rattle.keys.specs.declared.Value.{Value}
@@ -59,6 +63,15 @@ module _ (allowance : ℕ) (s : List ℕ) where
       λ none k h is. let it = found k h in let z : _≡_ {A = ℕ} 0 1 = cc in omega arith,
       λ none. ap (λ (o : Keys). foundOf o y s) (told.opened-are allowance s sound are) ∙ told.found-nowhere allowance s sound y none,
     )
+
+    -- What is written reads back: where the directory begins with what is written of the numbers given, each of their keys is found with the
+    -- value of its own four numbers.
+    pub written-found : (given rest : List ℕ) → Words given → givenCount given ≤ 8190 → d ≡ directoryBytes given ++ rest → (k : ℕ) → k < givenCount given → foundOf ks (givenKey given k) s ≡ Is (givenKey given k) (valueIn s (givenEntry given k))
+    written-found given rest small few is k h =
+        let count : countOf d ≡ givenCount given = rw is (back.count-back given rest small few) in
+        let key : keyOf d k ≡ givenKey given k = rw is (back.key-back given rest small few k h) in
+        let entry : entryOf d k ≡ givenEntry given k = rw is (back.entry-back given rest small few k h) in
+        ap (λ (y : ℕ). foundOf ks y s) (sym key) ∙ found k (omega arith) ∙ (λ i. Is (key i) (valueIn s (entry i)))
 
   -- "by index and count": doubles of eight bytes each, and bytes of text, that end in their own record, which lies in the file (`Lies`).
   module _ {d : List ℕ} (sound : Sound allowance s d) (k : ℕ) (below : k < countOf d) where
