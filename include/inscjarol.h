@@ -624,8 +624,8 @@ enum {
     LAS_KEY_KEY = 0,      /* the key */
     LAS_KEY_LOCATION = 1, /* 0: its value is a number; 34736: it is doubles, of eight bytes each; 34737: it is text */
     LAS_KEY_VALUE = 2,    /* the number; 0 where it is doubles or text */
-    LAS_KEY_START = 3,    /* the first byte of the doubles or of the text in the file, and their bytes; two zeros where it is a number */
-    LAS_KEY_LENGTH = 4,
+    LAS_KEY_START = 3,    /* the first byte of the doubles or of the text in the file; 0 where it is a number */
+    LAS_KEY_LENGTH = 4,   /* and their bytes */
     LAS_KEY_NUMBERS = 5
 };
 
