@@ -5,10 +5,14 @@
 
 enum { MOST = 8190, KEYS = 5, DOUBLES = 3, TEXT = 10 };
 
-/* The keys of the tests, four numbers each: a number; text up to its end; doubles up to their end; none of them, behind the last;
- * a number whose count is not looked at. */
-static const uint16_t given[4 * KEYS] = {1024, 0, 1, 1,     1026, 34737, 7, 3, 2057, 34736,
-                                         2,    1, 2059, 34736, 0,    3,     3072, 0, 9, 32632};
+/* The keys of the tests, four numbers each. */
+static const uint16_t given[4 * KEYS] = {
+    1024, 0,     1, 1,     /* a number */
+    1026, 34737, 7, 3,     /* text up to its end */
+    2057, 34736, 2, 1,     /* doubles up to their end */
+    2059, 34736, 0, 3,     /* none of them, behind the last */
+    3072, 0,     9, 32632, /* a number, whose count is not looked at */
+};
 
 /* A file as the tests want it: its directory as numbers, how many bytes of them and of zeros behind them it has, which records
  * there are, and how many bytes the two others have. */
