@@ -1,13 +1,11 @@
 -- Laws of keys that rise, and of the place of a key among some.
 use Prim.Native.Nat.{ℕ, zero, suc, _+_, _-_, _≤_, _<_}
-use mathlib.Core.Path.{_≡_, refl, ap, sym, _∙_}
+use mathlib.Core.Path.{_≡_, refl}
 use mathlib.Core.Bool.{Bool, true, false, cond}
-use mathlib.Core.Logic.{_⊎_, inl, inr}
-use native.Mathlib.Nat.{add-zero, add-suc, suc-add}
 use native.Mathlib.Omega.{arith}
-use borrow.Author.Tests.{leb-true, leb-false, eqb-true, eqb-false, eq-eqb, ne-eqb}
+use borrow.Author.Tests.{leb-true, leb-false, eqb-true, eqb-false}
 use lib.Dec.{eqb, leb}
-use Rattle.directory.specs.Directory.{risingAt, placeFrom, placeOf}
+use Rattle.directory.specs.Directory.{risingAt, placeFrom}
 use Rattle.directory.specs.Laws.{rising-says}
 
 -- keys each of which is above the one before it are in order, so that no two are the same

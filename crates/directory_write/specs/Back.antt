@@ -1,17 +1,16 @@
 -- Laws of what a write answers and leaves, and that it reads back.
-use Prim.Native.Nat.{ℕ, zero, suc, _+_, _*_, _-_, _/_, _≤_, _<_}
+use Prim.Native.Nat.{ℕ, zero, suc, _+_, _*_, _-_, _≤_, _<_}
 use mathlib.Core.Path.{_≡_, refl, ap, sym, _∙_}
 use mathlib.Core.Bool.{Bool, true, false, _||_}
 use mathlib.Core.List.{List, [], _∷_, _++_, append-assoc}
 use mathlib.Core.Logic.{_⊎_, inl, inr}
-use native.Mathlib.Nat.{mul-suc}
 use native.Mathlib.Omega.{arith}
 use borrow.Author.Tests.{ltb-true, ltb-false}
 use lib.Dec.{ltb, eqb}
-use lib.ListN.{length, take, drop, getD, length-append, length-drop}
-use lib.Seq.{getD-append-add, getD-take, length-take-le, drop-at}
+use lib.ListN.{length, take, drop, getD, length-append}
+use lib.Seq.{getD-append-add, getD-take, length-take-le}
 use Rattle.refusal.specs.declared.Refusal.{Refusal}
-use Rattle.le.specs.Le.{le, num, bytes}
+use Rattle.le.specs.Le.{num}
 use Rattle.le.specs.Laws.{le-bytes}
 use Rattle.lent.specs.declared.Wrote.{Wrote}
 use Rattle.lent.specs.declared.Wrote.the-variants.{Bytes, Refused}
@@ -20,7 +19,7 @@ use Rattle.directory.specs.Laws.{every-passes, one-fails, decided}
 use Rattle.directory.specs.Order.{Sought, there, nowhere, sought, only}
 use Rattle.directory_write.specs.Written.{givenCount, givenKey, inFront, numberBytes, directoryBytes, writtenOf}
 use Rattle.directory_write.specs.Exact.{Rising, Falling, wanted, RefusedFor, not-rising, too-many, no-room, WrittenFor, givenEntry}
-use Rattle.directory_write.specs.Laws.{length-numbers, length-directory, then-falling, then-many, then-short, then-written}
+use Rattle.directory_write.specs.Laws.{length-directory, then-falling, then-many, then-short, then-written}
 
 -- numbers of 16 bits
 abbrev pub Words : List ℕ → Type 0

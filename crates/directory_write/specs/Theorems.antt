@@ -1,20 +1,18 @@
 -- What a directory that is written is worth: document 02, No. 14, "write a directory from keys in rising order". `writtenOf` (`Written.antt`)
 -- is what a call answers, and the destination that it leaves of d; `ks` are the numbers that were given, four for each key.
 use Prim.Native.Nat.{ℕ, _+_, _*_, _-_, _^_, _≤_, _<_}
-use mathlib.Core.Path.{_≡_, refl, ap, sym, _∙_}
+use mathlib.Core.Path.{_≡_, ap, sym, _∙_}
 use mathlib.Core.Bool.{true}
 use mathlib.Core.List.{List, _++_}
 use mathlib.Core.Logic.{_↔_}
 use native.Mathlib.Omega.{arith}
-use lib.ListN.{length, drop, length-append, length-drop}
-use lib.Seq.{drop-at}
+use lib.ListN.{length, drop}
 use Rattle.refusal.specs.declared.Refusal.{Refusal}
 use Rattle.lent.specs.declared.Wrote.{Wrote}
 use Rattle.lent.specs.declared.Wrote.the-variants.{Bytes, Refused}
 use Rattle.directory.specs.Directory.{countOf, keyOf, entryOf, risingAt, placeOf}
 use Rattle.directory_write.specs.Written.{givenCount, givenKey, directoryBytes, writtenOf}
-use Rattle.directory_write.specs.Exact.{wanted, RefusedFor, WrittenFor, givenEntry}
-use Rattle.directory_write.specs.Laws.{length-directory}
+use Rattle.directory_write.specs.Exact.{RefusedFor, WrittenFor, givenEntry}
 use Rattle.directory_write.specs.Back as back
 use Rattle.directory_write.specs.Back.{Words}
 

@@ -1,7 +1,7 @@
 -- A directory that is written: document 02, No. 14, "write a directory from keys in rising order", "Writing refuses keys not rising, over
 -- 8,190 keys, then no room."
 use Prim.Native.Nat.{ℕ, _*_, _/_}
-use mathlib.Core.Bool.{Bool, cond}
+use mathlib.Core.Bool.{cond}
 use mathlib.Core.List.{List, [], _∷_, _++_}
 use lib.Dec.{ltb}
 use lib.ListN.{length, take, getD}

@@ -16,7 +16,7 @@ use Rattle.first_vlr.specs.declared.FirstVlr.the-variants as first
 use Rattle.directory.specs.declared.Entry.{Entry}
 use Rattle.directory.specs.declared.Question.{Question}
 use Rattle.directory.specs.declared.Question.the-variants.{Rising, Known, There, Within}
-use Rattle.directory.specs.Directory.{countOf, keyOf, entryOf, passes}
+use Rattle.directory.specs.Directory.{countOf, keyOf, passes}
 use Rattle.keys.specs.declared.Value.{Value}
 use Rattle.keys.specs.declared.Value.the-variants.{Number, Doubles, Text}
 use Rattle.keys.specs.Keys.{projectionOf, targetOf, startOf}

@@ -5,7 +5,6 @@ use mathlib.Core.Bool.{cond}
 use mathlib.Core.List.{List, [], _∷_}
 use lib.Dec.{eqb, leb}
 use lib.ListN.{length, take, drop}
-use Rattle.refusal.specs.declared.Refusal.{Refusal}
 use Rattle.refusal.specs.declared.Refusal.the-variants.{NoDirectory, KeyNotFound}
 use Rattle.outline.specs.declared.Outline.{Outline}
 use Rattle.first_vlr.specs.declared.FirstVlr.{FirstVlr}

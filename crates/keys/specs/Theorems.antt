@@ -2,13 +2,11 @@
 -- call answers of the key x in the file s.
 use Prim.Native.Nat.{ℕ, _+_, _*_, _≤_, _<_}
 use mathlib.Core.Path.{_≡_, refl, ap, sym, _∙_}
-use mathlib.Core.Bool.{Bool, true, false, cond}
 use mathlib.Core.List.{List, _++_}
 use mathlib.Core.Logic.{_↔_}
 use native.Mathlib.Omega.{arith}
 use Rattle.refusal.specs.declared.Refusal.{Refusal}
 use Rattle.first_vlr.specs.declared.FirstVlr.the-variants as first
-use Rattle.directory.specs.declared.Entry.{Entry}
 use Rattle.directory.specs.Directory.{countOf, keyOf, entryOf, passes}
 use Rattle.directory_write.specs.Written.{givenCount, givenKey, directoryBytes}
 use Rattle.directory_write.specs.Exact.{givenEntry}
@@ -20,8 +18,8 @@ use Rattle.keys.specs.declared.Value.{Value}
 use Rattle.keys.specs.declared.Value.the-variants.{Number, Doubles, Text}
 use Rattle.keys.specs.declared.KeyAt.the-variants.{Is, Nothing}
 use Rattle.keys.specs.declared.Got.the-variants as got
-use Rattle.keys.specs.Keys.{startOf, openedOf, keyAtOf, foundOf, gotOf}
-use Rattle.keys.specs.Exact.{recordIn, valueIn, Sound, Unopened, RefusedFor, FoundAt}
+use Rattle.keys.specs.Keys.{openedOf, keyAtOf, foundOf, gotOf}
+use Rattle.keys.specs.Exact.{valueIn, Sound, Unopened, RefusedFor, FoundAt}
 use Rattle.keys.specs.Told as told
 use Rattle.keys.specs.Told.{Lies}
 

@@ -1,12 +1,12 @@
 -- Laws of what is told of keys, by what a file is refused for or has.
 use Prim.Native.Nat.{ℕ, _+_, _*_, _-_, _≤_, _<_}
-use mathlib.Core.Path.{_≡_, refl, ap, sym, subst, _∙_}
-use mathlib.Core.Bool.{Bool, true, false, cond, _||_}
+use mathlib.Core.Path.{_≡_, refl, ap, sym, _∙_}
+use mathlib.Core.Bool.{Bool, true, false, cond}
 use mathlib.Core.List.{List}
 use mathlib.Core.Logic.{_⊎_, inl, inr}
 use native.Mathlib.Omega.{arith}
-use borrow.Author.Tests.{le-leb, lt-leb, leb-true, ltb-true, ltb-false, eqb-true}
-use lib.Dec.{eqb, ltb, leb}
+use borrow.Author.Tests.{le-leb, lt-leb, leb-true, ltb-true, ltb-false}
+use lib.Dec.{eqb, ltb}
 use lib.ListN.{length, take, drop}
 use Rattle.refusal.specs.declared.Refusal.{Refusal}
 use Rattle.rules.specs.declared.Checked.{Checked}
@@ -23,20 +23,17 @@ use Rattle.directory.specs.declared.Judged.{Judged}
 use Rattle.directory.specs.declared.Judged.the-variants as judged
 use Rattle.directory.specs.declared.Question.{Question}
 use Rattle.directory.specs.declared.Question.the-variants.{Rising, Known, There, Within}
-use Rattle.directory.specs.Directory.{countOf, keyOf, entryOf, bytesOf, recordFor, holds, within, passes, every, judgedOf, placeOf}
+use Rattle.directory.specs.Directory.{countOf, keyOf, entryOf, holds, within, passes, judgedOf, placeOf}
 use Rattle.directory.specs.Laws as judging
 use Rattle.directory.specs.Order.{Sought, there, nowhere, sought, only}
 use Rattle.keys.specs.declared.Keys.{Keys}
 use Rattle.keys.specs.declared.Opened.{Opened}
 use Rattle.keys.specs.declared.Opened.the-variants as opened
-use Rattle.keys.specs.declared.Part.{Part}
 use Rattle.keys.specs.declared.Value.{Value}
 use Rattle.keys.specs.declared.Value.the-variants.{Doubles, Text}
-use Rattle.keys.specs.declared.KeyAt.{KeyAt}
 use Rattle.keys.specs.declared.KeyAt.the-variants.{Is, Nothing}
-use Rattle.keys.specs.declared.Got.{Got}
 use Rattle.keys.specs.declared.Got.the-variants as got
-use Rattle.keys.specs.Keys.{projection, projectionOf, targetOf, startOf, openedBy, openedIn, openedFile, openedOf, directoryIn, baseOf, partOf, toldBy, toldOf, keyAtOf, foundOf, valueBy, gotBy, gotOf}
+use Rattle.keys.specs.Keys.{projection, projectionOf, targetOf, startOf, openedBy, openedIn, openedOf, directoryIn, baseOf, partOf, toldOf, keyAtOf, foundOf, valueBy, gotBy, gotOf}
 use Rattle.keys.specs.Exact.{recordIn, All, Fails, valueIn, Accepted, Directory, Long, Risen, Located, Targeted, Sound, Unopened, file-check, no-directory, directory-short, not-rising, unknown-location, target-absent, target-beyond, RefusedFor, unopened, key-not-found, FoundAt}
 
 -- a record that was found lies in the file

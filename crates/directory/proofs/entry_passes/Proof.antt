@@ -1,7 +1,5 @@
-use mathlib.Core.Path.{ap, sym, _∙_}
 use borrow.Author.Needs.{needs}
-use Rattle.directory.specs.declared.Question.{Question}
-use Rattle.directory.specs.Directory.{known, there, within, passes}
+use Rattle.directory.specs.Directory.{passes}
 use Rattle.directory.proofs.entry_passes.Statement.{statement}
 use Rattle.directory.proofs.entry_passes.Tie as tie
 

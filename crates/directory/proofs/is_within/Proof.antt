@@ -1,12 +1,5 @@
-use Prim.Native.Nat.{ℕ, _+_, _*_, _≤_}
-use mathlib.Core.Path.{_≡_, ap, sym, _∙_}
-use mathlib.Core.Bool.{Bool, true, false}
-use native.Mathlib.Nat.{mul-le-mul-right}
-use native.Mathlib.Omega.{arith}
 use borrow.Author.Needs.{needs}
 use borrow.Author.Tests.{eq-eqb, ne-eqb}
-use Rattle.directory.specs.declared.Target.{Target}
-use Rattle.directory.specs.Directory.{holds}
 use Rattle.directory.proofs.is_within.Statement.{statement}
 use Rattle.directory.proofs.is_within.Tie as tie
 

@@ -1,9 +1,8 @@
 -- The invariant: every key so far rises, the first of all in any case.
-use Prim.Native.Nat.{ℕ, _*_, _≤_, _<_, _-_}
-use mathlib.Core.Path.{_≡_, refl, sym, _∙_}
+use Prim.Native.Nat.{ℕ, _≤_, _<_, _-_}
+use mathlib.Core.Path.{_≡_, sym}
 use mathlib.Core.Bool.{true}
 use native.Mathlib.Omega.{arith}
-use borrow.Author.Needs.{needs}
 use Rattle.directory.specs.Directory.{risingAt}
 use Rattle.directory.specs.Laws.{every-passes, one-fails, one-more, rises, falls}
 use Rattle.directory_write.specs.Written.{givenKey}

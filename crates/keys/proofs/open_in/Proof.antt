@@ -1,13 +1,11 @@
 use mathlib.Core.Path.{_≡_, sym, ap, _∙_}
-use mathlib.Core.List.{List}
-use Prim.Native.Nat.{ℕ}
 use lib.ListN.{take, drop}
 use borrow.Author.Needs.{needs}
 use Rattle.first_vlr.specs.declared.FirstVlr.{FirstVlr}
 use Rattle.directory.specs.declared.Judged.{Judged}
 use Rattle.directory.specs.Directory.{judgedOf}
 use Rattle.keys.specs.declared.Opened.the-variants.{Keys}
-use Rattle.keys.specs.Keys.{targetOf, startOf, openedBy, openedIn}
+use Rattle.keys.specs.Keys.{targetOf, openedBy, openedIn}
 use Rattle.keys.proofs.open_in.Statement.{statement}
 use Rattle.keys.proofs.open_in.Tie as tie
 

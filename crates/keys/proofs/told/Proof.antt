@@ -1,11 +1,8 @@
 use mathlib.Core.Path.{_≡_, sym, ap, _∙_}
-use mathlib.Core.Bool.{Bool, cond}
 use borrow.Author.Needs.{needs}
 use borrow.Author.Tests.{eq-eqb, ne-eqb}
 use Prim.Native.Nat.{ℕ}
 use Rattle.keys.specs.declared.Part.{Part}
-use Rattle.keys.specs.declared.Value.the-variants.{Doubles, Text}
-use Rattle.keys.specs.declared.KeyAt.the-variants.{Is}
 use Rattle.keys.specs.Keys.{partOf, toldBy, toldOf}
 use Rattle.keys.proofs.told.Statement.{statement}
 use Rattle.keys.proofs.told.Tie as tie
