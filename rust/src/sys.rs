@@ -498,6 +498,40 @@ pub(crate) fn reclassify_ask(
     was.map(|was| (at, byte as u8, was as u8))
 }
 
+// Calls on coordinate keys, which are five numbers, as is each of them.
+
+/// Where the keys of the file are, and how many there are.
+pub(crate) fn keys(file: &[u8], allowance: u64) -> Result<([u64; 5], usize), Refusal> {
+    let mut keys = [0; 5];
+    asked(|row| calls::las_keys(file, allowance, &mut keys, row))
+        .map(|count| (keys, in_memory(count)))
+}
+
+/// The key with this number, from 0 on; none past the last.
+pub(crate) fn keys_at(file: &[u8], keys: &[u64; 5], k: u16) -> Option<[u64; 5]> {
+    let mut key = [0; 5];
+    let has = calls::las_keys_at(file, keys, k, &mut key);
+    (has == 1).then_some(key)
+}
+
+/// This key of these; none where they do not have it.
+pub(crate) fn keys_find(file: &[u8], keys: &[u64; 5], wanted: u16) -> Option<[u64; 5]> {
+    let mut key = [0; 5];
+    let has = calls::las_keys_find(file, keys, wanted, &mut key);
+    (has == 1).then_some(key)
+}
+
+/// This key of the file.
+pub(crate) fn key(file: &[u8], allowance: u64, wanted: u16) -> Result<[u64; 5], Refusal> {
+    let mut key = [0; 5];
+    asked(|row| calls::las_key(file, allowance, wanted, &mut key, row)).map(|_| key)
+}
+
+/// The bytes of the directory that was written, from four numbers a key.
+pub(crate) fn keys_write(keys: &[u16], dst: &mut [u8]) -> Result<usize, Refusal> {
+    asked(|row| calls::las_keys_write(keys, dst, row)).map(in_memory)
+}
+
 // Calls on runs of records: a format byte, a count of extra bytes and a count of records.
 
 pub(crate) fn convert_ask_old(src: &[u8], run: (u8, u16, u64)) -> Result<usize, Refusal> {

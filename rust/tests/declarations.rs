@@ -34,6 +34,7 @@ fn declared(types: Types) -> Types {
         let words: &[&str] = match of.as_str() {
             "&[u8]" => &["*const u8", "usize"],
             "&mut [u8]" => &["*mut u8", "usize"],
+            "&[u16]" => &["*const u16", "usize"],
             "&mut [u64]" => &["*mut u64", "usize"],
             "&mut [i32]" => &["*mut i32", "usize"],
             "&mut [u16]" => &["*mut u16", "usize"],

@@ -393,6 +393,43 @@ mod lent {
             row: &mut Row,
         );
 
+        pub(super) fn las_keys(
+            file: *const u8,
+            len: usize,
+            allowance: u64,
+            keys: &mut [u64; 5],
+            row: &mut Row,
+        );
+        pub(super) fn las_keys_at(
+            file: *const u8,
+            len: usize,
+            keys: &[u64; 5],
+            k: u16,
+            key: &mut [u64; 5],
+        ) -> u8;
+        pub(super) fn las_keys_find(
+            file: *const u8,
+            len: usize,
+            keys: &[u64; 5],
+            wanted: u16,
+            key: &mut [u64; 5],
+        ) -> u8;
+        pub(super) fn las_key(
+            file: *const u8,
+            len: usize,
+            allowance: u64,
+            wanted: u16,
+            key: &mut [u64; 5],
+            row: &mut Row,
+        );
+        pub(super) fn las_keys_write(
+            keys: *const u16,
+            keys_len: usize,
+            dst: *mut u8,
+            dst_len: usize,
+            row: &mut Row,
+        );
+
         pub(super) fn las_convert_ask_old(
             src: *const u8,
             src_len: usize,
@@ -1060,6 +1097,46 @@ pub fn las_reclassify_ask(
     let (at, len) = (file.as_ptr(), file.len());
     // SAFETY: pointer and length are those of one borrowed slice.
     unsafe { lent::las_reclassify_ask(at, len, allowance, point, class, change, row) }
+}
+
+// Calls on coordinate keys. Keys of a file are how many there are, where their directory is and how many bytes it has, and where their
+// doubles and their text are; a key is the key, its location, its number, and where its doubles or its text is and how many bytes that has.
+
+/// Where the keys of a file are; the value is how many there are.
+#[inline]
+pub fn las_keys(file: &[u8], allowance: u64, keys: &mut [u64; 5], row: &mut Row) {
+    // SAFETY: pointer and length are those of one borrowed slice.
+    unsafe { lent::las_keys(file.as_ptr(), file.len(), allowance, keys, row) }
+}
+
+/// Whether there is a key with this number, from 0 on: then it.
+#[inline]
+pub fn las_keys_at(file: &[u8], keys: &[u64; 5], k: u16, key: &mut [u64; 5]) -> u8 {
+    // SAFETY: pointer and length are those of one borrowed slice.
+    unsafe { lent::las_keys_at(file.as_ptr(), file.len(), keys, k, key) }
+}
+
+/// Whether they have this key: then it.
+#[inline]
+pub fn las_keys_find(file: &[u8], keys: &[u64; 5], wanted: u16, key: &mut [u64; 5]) -> u8 {
+    // SAFETY: pointer and length are those of one borrowed slice.
+    unsafe { lent::las_keys_find(file.as_ptr(), file.len(), keys, wanted, key) }
+}
+
+/// A key of a file.
+#[inline]
+pub fn las_key(file: &[u8], allowance: u64, wanted: u16, key: &mut [u64; 5], row: &mut Row) {
+    // SAFETY: pointer and length are those of one borrowed slice.
+    unsafe { lent::las_key(file.as_ptr(), file.len(), allowance, wanted, key, row) }
+}
+
+/// Writes a directory of keys, each of four numbers: key, location, count, value or index.
+#[inline]
+pub fn las_keys_write(keys: &[u16], dst: &mut [u8], row: &mut Row) {
+    let (from, from_len) = (keys.as_ptr(), keys.len());
+    let (to, to_len) = (dst.as_mut_ptr(), dst.len());
+    // SAFETY: both pointers go with the lengths of their borrowed slices, of which the one written to is borrowed alone.
+    unsafe { lent::las_keys_write(from, from_len, to, to_len, row) }
 }
 
 // Calls on runs of records: a format byte, a count of extra bytes and a count of records.
