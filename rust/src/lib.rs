@@ -71,6 +71,8 @@
 //! A whole file of LAS 1.2 becomes one of LAS 1.4, for clients who move to newer software, by [`File::to_new`], and comes back by
 //! [`File::to_old`].
 //!
+//! Which grid the points are in is said by coordinate keys: [`File::keys`], and the module [`keys`].
+//!
 //! A scanner makes a file of LAS 1.2 by [`NewFile`], opens it as a [`Writer`], and appends sweep after sweep: an [`Append`] can be
 //! cut short by a brownout anywhere, and repeated without harm. The class of a single point of any file is corrected in place by
 //! [`Reclassify`], in memory or, by the same [`Writer`], on the disk.
@@ -103,6 +105,7 @@ mod file;
 mod flags;
 mod format;
 mod header;
+pub mod keys;
 mod map;
 mod new;
 mod point;
@@ -123,6 +126,7 @@ pub use file::{allowance_for, Checked, File, Part, PartKind, Parts, Points, Vlrs
 pub use flags::{Flags, ScanDirection};
 pub use format::Format;
 pub use header::{Bounds, Evlrs, Header, LargeFile, Version};
+pub use keys::{Key, Keys};
 pub use map::Mapped;
 pub use new::NewFile;
 pub use point::{Color, Point, Waveform};
