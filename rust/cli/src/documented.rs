@@ -11,9 +11,9 @@ const BEGIN: &str = "\
 inscjarol help json: what --json prints
 
 Each line of the standard output is an object of its own, in the order of the files. Its fields come in the order in
-which they are told here. Numbers are whole but for scale, offset, min, max and those of points; counts may be as large
-as 2^64 - 1. Texts are UTF-8: bytes of a file or of a name that are none are shown as replacement characters. A.B is the
-field B of the object A, and A[].B that of each object in the list A. Later versions may add fields.
+which they are told here. Numbers are whole but for scale, offset, min, max, doubles and those of points; counts may be
+as large as 2^64 - 1. Texts are UTF-8: bytes of a file or of a name that are none are shown as replacement characters.
+A.B is the field B of the object A, and A[].B that of each object in the list A. Later versions may add fields.
 ";
 
 const NAME: (&str, &str, &str) = (
@@ -58,6 +58,19 @@ const POINT_NUMBER: (&str, &str, &str) = ("point", "number", "counted from 1");
 const CLASS: (&str, &str, &str) = ("class", "number", "the class that was asked for");
 const TO_FORMAT: (&str, &str, &str) = ("to_format", "number", "the format that they go to");
 const TO_VERSION: (&str, &str, &str) = ("to_version", "text", "the version that it goes to");
+const SAYS: (&str, &str, &str) = (
+    "says",
+    "text or null",
+    "keys or WKT, whichever counts; null where neither does",
+);
+const WKT_BIT: (&str, &str, &str) = (
+    "wkt_bit",
+    "true or false",
+    "bit 4 of global encoding, by which WKT counts",
+);
+const WKT: (&str, &str, &str) = ("wkt", "text or null", "as it stands");
+const WKT_IN: (&str, &str, &str) = ("wkt_in", "text or null", "VLR or EVLR");
+const TRANSFORM: (&str, &str, &str) = ("math_transform", "text or null", "as it stands");
 
 /// Every object that there is, with what it is printed for.
 const OBJECTS: &[(&str, Fields)] = &[
@@ -100,7 +113,7 @@ const OBJECTS: &[(&str, Fields)] = &[
         ],
     ),
     (
-        "parts, info, points and rewrite, for a file that is refused:",
+        "parts, info, grid, points and rewrite, for a file that is refused:",
         &[NAME, NOT_ACCEPTED, NUMBER, KIND, VALUE, RECORD, WORDS],
     ),
     (
@@ -150,6 +163,11 @@ const OBJECTS: &[(&str, Fields)] = &[
                 "max[]",
                 "number or null",
                 "largest x, y and z, by the header",
+            ),
+            (
+                "grid",
+                "text",
+                "as grid says it, of WKT no more than its name",
             ),
             (
                 "waveform_start",
@@ -214,6 +232,60 @@ const OBJECTS: &[(&str, Fields)] = &[
                 "first byte that belongs to no part",
             ),
             ("gaps[].length", "number", "bytes"),
+        ],
+    ),
+    (
+        "grid, for a file that is accepted:",
+        &[
+            NAME,
+            ACCEPTED,
+            SAYS,
+            WKT_BIT,
+            (
+                "horizontal_epsg",
+                "number or null",
+                "by key 3072, or else 2048; null where there is none of EPSG",
+            ),
+            ("horizontal_units", "text or null", "in words, as metres"),
+            ("vertical_epsg", "number or null", "by key 4096"),
+            ("vertical_units", "text or null", "in words"),
+            ("keys[].key", "number", "rising"),
+            (
+                "keys[].name",
+                "text or null",
+                "GeoTIFF's, where it is known",
+            ),
+            ("keys[].number", "number", "what it has: a number,"),
+            (
+                "keys[].doubles[]",
+                "number or null",
+                "or doubles, null for none,",
+            ),
+            (
+                "keys[].text",
+                "text",
+                "or a text, without its bar at the end",
+            ),
+            WKT,
+            WKT_IN,
+            TRANSFORM,
+        ],
+    ),
+    (
+        "grid, for a file whose directory of keys is refused:",
+        &[
+            NAME,
+            ACCEPTED,
+            SAYS,
+            WKT_BIT,
+            ("refusal.number", "number", "43 to 47"),
+            KIND,
+            ("refusal.value", "number", "0"),
+            ("refusal.record", "number", "0"),
+            WORDS,
+            WKT,
+            WKT_IN,
+            TRANSFORM,
         ],
     ),
     (

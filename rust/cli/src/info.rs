@@ -2,7 +2,7 @@
 
 use super::{
     args::Words,
-    extra::{self, Extras},
+    grid::Grid,
     input::{Files, Name},
     json::{self, Object},
     known,
@@ -30,6 +30,8 @@ why; their bytes are there all the same, as the field 'extra' of 'inscjarol poin
 Then come the VLRs and EVLRs, and the waveform packets where they are a record of the file, each with its user id,
 record id, description, length and first byte, and what it is where that is known; and the gaps, which are bytes that
 belong to no part.
+
+Which grid the points are in is told as 'inscjarol grid' tells it, but of WKT no more than its name.
 
 Each file stands under its name. Of a folder the .las files are shown, in the order of their names.
 
@@ -178,6 +180,7 @@ fn for_people(file: &File<'_>, out: &mut Output) -> Result<(), Failure> {
         let words = format!("{} {}", float(from), float(to));
         say(&format!("{axis} from, to"), words)?;
     }
+    say("grid", Grid::of(file).in_brief())?;
     if let Some(start) = header
         .start_of_waveform_data_packet_record
         .filter(|start| *start > 0)
@@ -351,7 +354,8 @@ fn for_programs(name: &Name, file: &File<'_>) -> String {
         .list("scale", listed(scale))
         .list("offset", listed(offset))
         .list("min", listed(bounds.min))
-        .list("max", listed(bounds.max));
+        .list("max", listed(bounds.max))
+        .text("grid", &Grid::of(file).in_brief());
     match header.start_of_waveform_data_packet_record {
         Some(start) => object.number("waveform_start", start),
         None => object.raw("waveform_start", "null"),

@@ -70,14 +70,100 @@ pub(crate) fn date(year: u16, day_of_year: u16) -> Option<String> {
     None
 }
 
+/// The name that GeoTIFF gives a coordinate key.
+pub(crate) fn key(id: u16) -> Option<&'static str> {
+    Some(match id {
+        1024 => "GTModelType",
+        1025 => "GTRasterType",
+        1026 => "GTCitation",
+        2048 => "GeographicType",
+        2049 => "GeogCitation",
+        2050 => "GeogGeodeticDatum",
+        2051 => "GeogPrimeMeridian",
+        2052 => "GeogLinearUnits",
+        2053 => "GeogLinearUnitSize",
+        2054 => "GeogAngularUnits",
+        2055 => "GeogAngularUnitSize",
+        2056 => "GeogEllipsoid",
+        2057 => "GeogSemiMajorAxis",
+        2058 => "GeogSemiMinorAxis",
+        2059 => "GeogInvFlattening",
+        2060 => "GeogAzimuthUnits",
+        2061 => "GeogPrimeMeridianLong",
+        2062 => "GeogTOWGS84",
+        3072 => "ProjectedCSType",
+        3073 => "PCSCitation",
+        3074 => "Projection",
+        3075 => "ProjCoordTrans",
+        3076 => "ProjLinearUnits",
+        3077 => "ProjLinearUnitSize",
+        3078 => "ProjStdParallel1",
+        3079 => "ProjStdParallel2",
+        3080 => "ProjNatOriginLong",
+        3081 => "ProjNatOriginLat",
+        3082 => "ProjFalseEasting",
+        3083 => "ProjFalseNorthing",
+        3084 => "ProjFalseOriginLong",
+        3085 => "ProjFalseOriginLat",
+        3086 => "ProjFalseOriginEasting",
+        3087 => "ProjFalseOriginNorthing",
+        3088 => "ProjCenterLong",
+        3089 => "ProjCenterLat",
+        3090 => "ProjCenterEasting",
+        3091 => "ProjCenterNorthing",
+        3092 => "ProjScaleAtNatOrigin",
+        3093 => "ProjScaleAtCenter",
+        3094 => "ProjAzimuthAngle",
+        3095 => "ProjStraightVertPoleLong",
+        3096 => "ProjRectifiedGridAngle",
+        4096 => "VerticalCSType",
+        4097 => "VerticalCitation",
+        4098 => "VerticalDatum",
+        4099 => "VerticalUnits",
+        _ => return None,
+    })
+}
+
+/// The unit, of lengths or of angles, that a code of EPSG stands for.
+pub(crate) fn unit(code: u16) -> Option<&'static str> {
+    Some(match code {
+        9001 => "metres",
+        9002 => "feet",
+        9003 => "US survey feet",
+        9004 => "modified American feet",
+        9005 => "Clarke's feet",
+        9006 => "Indian feet",
+        9007 => "links",
+        9008 => "Benoit links",
+        9009 => "Sears links",
+        9010 => "Benoit chains",
+        9011 => "Sears chains",
+        9012 => "Sears yards",
+        9013 => "Indian yards",
+        9014 => "fathoms",
+        9015 | 9030 => "nautical miles",
+        9036 => "kilometres",
+        9101 => "radians",
+        9102 => "degrees",
+        9103 => "arc-minutes",
+        9104 => "arc-seconds",
+        9105 => "grads",
+        9106 => "gons",
+        _ => return None,
+    })
+}
+
 /// What a record is, where the standard or common use says so.
 pub(crate) fn meaning(vlr: &Vlr<'_>) -> Option<String> {
     let words = match (vlr.user().as_ref(), vlr.record_id) {
         ("LASF_Projection", 2111) => "math transform in WKT",
         ("LASF_Projection", 2112) => return Some(wkt(vlr.data)),
-        ("LASF_Projection", 34735) => return Some(geo_keys(vlr.data)),
-        ("LASF_Projection", 34736) => "floats of the GeoTIFF keys",
-        ("LASF_Projection", 34737) => "texts of the GeoTIFF keys",
+        ("LASF_Projection", 34735..=34737) if vlr.extended => {
+            "of coordinate keys (GeoTIFF), which only a VLR can hold"
+        }
+        ("LASF_Projection", 34735) => "coordinate keys (GeoTIFF)",
+        ("LASF_Projection", 34736) => "floats of the coordinate keys",
+        ("LASF_Projection", 34737) => "texts of the coordinate keys",
         ("LASF_Spec", 0) => "names of the classes",
         ("LASF_Spec", 3) => return Some(described(vlr.data)),
         ("LASF_Spec", 4) if vlr.extended => "what the extra bytes are, which only a VLR can say",
@@ -103,13 +189,17 @@ fn shortened(words: &str) -> String {
     }
 }
 
-/// A coordinate system in WKT: its name is the first text in quotes.
+/// A coordinate system in WKT.
 fn wkt(data: &[u8]) -> String {
-    let wkt = text(data);
-    match wkt.split('"').nth(1) {
-        Some(name) => format!("coordinate system in WKT: {}", shortened(name)),
+    match wkt_name(&text(data)) {
+        Some(name) => format!("coordinate system in WKT: {name}"),
         None => String::from("coordinate system in WKT"),
     }
+}
+
+/// The name of a coordinate system in WKT: its first text in quotes.
+pub(crate) fn wkt_name(wkt: &str) -> Option<String> {
+    wkt.split('"').nth(1).map(shortened)
 }
 
 /// A text area: its first line.
@@ -121,28 +211,29 @@ fn described(data: &[u8]) -> String {
     }
 }
 
-/// GeoTIFF keys: how many, and the EPSG codes among them. Each has four numbers, and four more stand before the first.
-fn geo_keys(data: &[u8]) -> String {
-    let numbers: Vec<u16> = data
-        .chunks_exact(2)
-        .map(|pair| pair.iter().rev().fold(0, |n, &b| n << 8 | u16::from(b)))
+/// Extra bytes: their names and kinds.
+fn extra_bytes(vlr: &Vlr<'_>) -> String {
+    let fields: Vec<String> = extra::described_by(vlr.data)
+        .iter()
+        .map(|field| {
+            let mut words = format!("{} ({}", field.name, field.kind.words());
+            if let Some(scale) = field.scale {
+                words.push_str(&format!(", steps of {}", float(scale)));
+            }
+            if let Some(offset) = field.offset {
+                words.push_str(&format!(", from {}", float(offset)));
+            }
+            words.push(')');
+            if !field.about.is_empty() {
+                words.push_str(&format!(" \"{}\"", field.about));
+            }
+            words
+        })
         .collect();
-    let mut entries = numbers.chunks_exact(4);
-    let count = match entries.next() {
-        Some(&[_, _, _, count]) => count,
-        _ => return String::from("GeoTIFF keys"),
-    };
-    let mut words = format!("GeoTIFF keys: {count}");
-    for entry in entries.take(usize::from(count)) {
-        let what = match *entry {
-            [3072, 0, _, code] => ("projected", code),
-            [2048, 0, _, code] => ("geographic", code),
-            [4096, 0, _, code] => ("vertical", code),
-            _ => continue,
-        };
-        words.push_str(&format!(", {} EPSG:{}", what.0, what.1));
+    match fields.is_empty() {
+        true => String::from("what the extra bytes are"),
+        false => format!("extra bytes: {}", fields.join(", ")),
     }
-    words
 }
 
 #[cfg(test)]
@@ -185,18 +276,12 @@ mod tests {
     #[test]
     fn records_in_words() {
         let said = |user: &str, id: u16, data: &[u8]| meaning(&Vlr::new(false, user, id, "", data));
-        let keys: Vec<u8> = [1_u16, 1, 0, 2, 1024, 0, 1, 1, 3072, 0, 1, 25832]
-            .iter()
-            .flat_map(|n| n.to_le_bytes())
-            .collect();
         assert_eq!(
-            said("LASF_Projection", 34735, &keys),
-            Some("GeoTIFF keys: 2, projected EPSG:25832".into())
+            said("LASF_Projection", 34735, b""),
+            Some("coordinate keys (GeoTIFF)".into())
         );
-        assert_eq!(
-            said("LASF_Projection", 34735, b"abc"),
-            Some("GeoTIFF keys".into())
-        );
+        let extended = meaning(&Vlr::new(true, "LASF_Projection", 34735, "", b""));
+        assert!(extended.map_or(false, |words| words.contains("only a VLR")));
         assert_eq!(
             said(
                 "LASF_Projection",

@@ -110,6 +110,32 @@ fn in_order(fields: &Fields, told: &Fields) -> bool {
         .all(|(name, _)| told.any(|(other, _)| other == name))
 }
 
+/// A file with keys of every kind and WKT; one whose directory is damaged; and one that has WKT too.
+fn grids() -> [Vec<u8>; 3] {
+    use inscjarol::{keys::NewKeys, NewFile, Vlr};
+    let keys = NewKeys::new()
+        .number(1024, 1)
+        .doubles(2057, &[6_378_137.0, f64::NAN])
+        .number(3072, 25_832)
+        .text(3073, "ETRS89 / UTM zone 32N")
+        .number(3076, 9001)
+        .number(4096, 7837)
+        .number(4099, 9001)
+        .number(50_000, 0);
+    let keys = keys.finish().unwrap();
+    let record = |id: u16, data: &'static [u8]| Vlr::new(false, "LASF_Projection", id, "", data);
+    let with_wkt = |file: NewFile<'_>| {
+        file.vlr(record(2111, b"WKT"))
+            .vlr(record(2112, b"WKT"))
+            .to_vec()
+    };
+    let grid = with_wkt(keys.vlrs().fold(NewFile::new(1), NewFile::vlr));
+    let damaged = NewFile::new(1).vlr(record(34_735, b""));
+    let mut both = with_wkt(damaged.clone()).unwrap();
+    both[6] = 16;
+    [grid.unwrap(), damaged.to_vec().unwrap(), both]
+}
+
 #[test]
 fn every_field_that_is_printed_is_told_and_every_one_that_is_told_is_printed() {
     let folder = Folder::new("documented");
@@ -142,6 +168,8 @@ fn every_field_that_is_printed_is_told_and_every_one_that_is_told_is_printed() {
         folder.put("sample.las", &fs::read(sample()).unwrap()),
         folder.join("missing.las"),
     ];
+    let grids = grids().map(|bytes| folder.put(&format!("grid-{}.las", bytes.len()), &bytes));
+    let files = [&files[..], &grids[..]].concat();
 
     let told = told();
     let mut printed: BTreeMap<String, Fields> = BTreeMap::new();
@@ -181,10 +209,16 @@ fn every_field_that_is_printed_is_told_and_every_one_that_is_told_is_printed() {
                 ("classify", _, true) if has("point") => "classify, for a point that is refused:",
                 ("classify", _, true) => "classify, for a file that is refused:",
                 ("classify", ..) => "classify, for a point that has its class, or can have it:",
-                (_, _, true) => "parts, info, points and rewrite, for a file that is refused:",
+                ("grid", _, true) if has("says") => {
+                    "grid, for a file whose directory of keys is refused:"
+                }
+                (_, _, true) => {
+                    "parts, info, grid, points and rewrite, for a file that is refused:"
+                }
                 ("check", ..) => "check, for a file that is accepted:",
                 ("parts", ..) => "parts, for a file that is accepted:",
                 ("info", ..) => "info, for a file that is accepted:",
+                ("grid", ..) => "grid, for a file that is accepted:",
                 ("rewrite", ..) => "rewrite, for a file that was written:",
                 ("append", ..) => "append, where it is not refused:",
                 _ => "points, for each point, the fields that were chosen; null where the point has none:",
@@ -200,7 +234,7 @@ fn every_field_that_is_printed_is_told_and_every_one_that_is_told_is_printed() {
         }
     };
     for path in &files {
-        for command in ["check", "parts", "info", "points", "ask"] {
+        for command in ["check", "parts", "info", "grid", "points", "ask"] {
             see(&[command], path, &[]);
         }
         see(&["ask", "--to", "1.2"], path, &[]);

@@ -4,7 +4,10 @@
 mod common;
 
 use common::{repository, sample, Folder};
-use inscjarol::{Flags, Format, Header, LargeFile, Point, Version};
+use inscjarol::{
+    keys::{self, NewKeys},
+    Flags, Format, Header, LargeFile, NewFile, Point, Version,
+};
 use std::{fs, process::Command};
 
 /// A file of LAS 1.4 with so many points of format 6, all of ground.
@@ -33,6 +36,15 @@ fn the_tool_says_what_it_shows() {
     folder.put("samples/stockpile.las", &whole);
     folder.put("broken.las", &whole[..50_000]);
     folder.put("east.las", &ground(1_200));
+    let keys = NewKeys::new()
+        .number(keys::PROJECTED_CRS, 25_832)
+        .text(keys::PROJECTED_CITATION, "ETRS89 / UTM zone 32N")
+        .number(keys::PROJECTED_UNITS, 9001)
+        .number(keys::VERTICAL_CRS, 7837)
+        .number(keys::VERTICAL_UNITS, 9001);
+    let keys = keys.finish().unwrap();
+    let north = keys.vlrs().fold(NewFile::new(1), NewFile::vlr);
+    folder.put("north.las", &north.to_vec().unwrap());
 
     let readme = fs::read_to_string(repository().join("README.md")).unwrap();
     let mut commands = Vec::new();
@@ -54,5 +66,5 @@ fn the_tool_says_what_it_shows() {
             .unwrap();
         assert_eq!(String::from_utf8(output.stdout).unwrap(), expected);
     }
-    assert_eq!(commands, ["check", "ask", "convert", "classify"]);
+    assert_eq!(commands, ["check", "ask", "convert", "classify", "grid"]);
 }
