@@ -10,11 +10,12 @@ use borrow.Author.Tests.{leb-true, leb-false, ltb-true, eq-eqb, ne-eqb, lt-ltb, 
 use lib.Dec.{ltb, leb, eqb}
 use lib.ListN.{length}
 use Rattle.refusal.specs.declared.Refusal.the-variants.{DirectoryShort, KeysNotRising, UnknownLocation, TargetAbsent, TargetBeyond}
+use Rattle.le.specs.Le.{num}
 use Rattle.directory.specs.declared.Target.{Target}
 use Rattle.directory.specs.declared.Question.{Question}
 use Rattle.directory.specs.declared.Question.the-variants.{Rising, Known, There, Within}
 use Rattle.directory.specs.declared.Judged.the-variants.{Keys, Refused}
-use Rattle.directory.specs.Directory.{countOf, risingAt, bytesOf, passes, every, judgedOf, placeFrom}
+use Rattle.directory.specs.Directory.{countOf, keyOf, entryOf, risingAt, bytesOf, within, passes, every, judgedOf, placeFrom}
 
 module _ (f : ℕ → Bool) where
   pub every-passes : (n : ℕ) → ((k : ℕ) → k < n → f k ≡ true) → every f n ≡ true
@@ -59,6 +60,21 @@ module _ (f : ℕ → Bool) where
       go true e (inl all) = inl (λ k h. one-more n all e k (omega arith))
       go true e (inr (k, h, bad)) = inr (k, omega arith, bad)
       go false e rest = inr (n, omega arith, e)
+
+-- an entry's numbers, and what is asked of it
+module _ (d : List ℕ) (k : ℕ) where
+  pub entry-is : entryOf d k ≡ record { key = keyOf d k; location = num 2 (8 + 8 * k + 2) d; count = num 2 (8 + 8 * k + 4) d; index = num 2 (8 + 8 * k + 6) d }
+  unfolding entryOf
+  entry-is = refl
+
+  module _ (doubles text : Target) where
+    pub asks-rising : passes Rising doubles text d k ≡ risingAt (keyOf d) k
+    unfolding passes
+    asks-rising = refl
+
+    pub asks-within : passes Within doubles text d k ≡ within doubles text (entryOf d k)
+    unfolding passes
+    asks-within = refl
 
 -- rising keys, by the test and by their order
 module _ (key : ℕ → ℕ) (k : ℕ) where

@@ -5,7 +5,7 @@ use mathlib.Core.Bool.{Bool, true, false, cond}
 use native.Mathlib.Omega.{arith}
 use borrow.Author.Tests.{leb-true, leb-false, eqb-true, eqb-false}
 use lib.Dec.{eqb, leb}
-use Rattle.directory.specs.Directory.{risingAt, placeFrom}
+use Rattle.directory.specs.Directory.{risingAt, placeFrom, placeOf}
 use Rattle.directory.specs.Laws.{rising-says}
 
 -- keys each of which is above the one before it are in order, so that no two are the same
@@ -35,7 +35,7 @@ module _ (f : ℕ → ℕ) (x : ℕ) where
     there : {p : ℕ} → i ≤ p → p < i + m → f p ≡ x → Sought i m p
     nowhere : {p : ℕ} → p ≡ i + m → ((j : ℕ) → i ≤ j → j < i + m → f j ≡ x → ⊥) → Sought i m p
 
-  pub sought : (i m : ℕ) → Sought i m (placeFrom f x i m)
+  sought : (i m : ℕ) → Sought i m (placeFrom f x i m)
   unfolding placeFrom
   sought i zero = nowhere {p = i} (omega arith) (λ j h l. absurd (omega arith))
   sought i (suc m) = go (eqb (f i) x) refl (sought (suc i) m)
@@ -51,3 +51,7 @@ module _ (f : ℕ → ℕ) (x : ℕ) where
       go : (b : Bool) → eqb (f i) x ≡ b → Sought (suc i) m (placeFrom f x (suc i) m) → Sought i (suc m) (cond b i (placeFrom f x (suc i) m))
       go true t rest = there {p = i} (omega arith) (omega arith) (eqb-true (f i) x t)
       go false t rest = further (eqb-false (f i) x t) rest
+
+  pub placed : (n : ℕ) → Sought 0 n (placeOf f x n)
+  unfolding placeOf
+  placed n = sought 0 n

@@ -2,7 +2,7 @@
 use Prim.Native.Nat.{ℕ, zero, suc, _+_, _*_, _-_, _≤_, _<_}
 use mathlib.Core.Path.{_≡_, refl, ap, sym, _∙_}
 use mathlib.Core.Bool.{Bool, true, false, _||_}
-use mathlib.Core.List.{List, [], _∷_, _++_, append-assoc}
+use mathlib.Core.List.{List, [], _∷_, _++_}
 use mathlib.Core.Logic.{_⊎_, inl, inr}
 use native.Mathlib.Omega.{arith}
 use borrow.Author.Tests.{ltb-true, ltb-false}
@@ -10,13 +10,14 @@ use lib.Dec.{ltb, eqb}
 use lib.ListN.{length, take, drop, getD, length-append}
 use lib.Seq.{getD-append-add, getD-take, length-take-le}
 use Rattle.refusal.specs.declared.Refusal.{Refusal}
-use Rattle.le.specs.Le.{num}
-use Rattle.le.specs.Laws.{le-bytes}
+use Rattle.le.specs.Le.{num, bytes}
+use Rattle.le.specs.Laws.{num-bytes}
+use Rattle.le.specs.Part.{num-drop}
 use Rattle.lent.specs.declared.Wrote.{Wrote}
 use Rattle.lent.specs.declared.Wrote.the-variants.{Bytes, Refused}
 use Rattle.directory.specs.Directory.{countOf, keyOf, entryOf, risingAt, every, placeOf}
-use Rattle.directory.specs.Laws.{every-passes, one-fails, decided}
-use Rattle.directory.specs.Order.{Sought, there, nowhere, sought, only}
+use Rattle.directory.specs.Laws.{every-passes, one-fails, decided, entry-is}
+use Rattle.directory.specs.Order.{Sought, there, nowhere, placed, only}
 use Rattle.directory_write.specs.Written.{givenCount, givenKey, inFront, numberBytes, directoryBytes, writtenOf}
 use Rattle.directory_write.specs.Exact.{Rising, Falling, wanted, RefusedFor, not-rising, too-many, no-room, WrittenFor, givenEntry}
 use Rattle.directory_write.specs.Laws.{length-directory, then-falling, then-many, then-short, then-written}
@@ -27,12 +28,12 @@ Words xs = (i : ℕ) → getD xs i 0 < 65536
 
 -- are read where they stand
 number-at : (xs rest : List ℕ) → Words xs → (i : ℕ) → i < length xs → num 2 (2 * i) (numberBytes xs ++ rest) ≡ getD xs i 0
-unfolding numberBytes num
+unfolding numberBytes
 number-at [] rest small i h = absurd (omega arith)
-number-at (x ∷ xs) rest small zero h = rw append-assoc (le-bytes 2 x (numberBytes xs ++ rest) (omega (arith, small 0)))
+number-at (x ∷ xs) rest small zero h = num-bytes 2 0 ((bytes 2 x ++ numberBytes xs) ++ rest) x (omega (arith, small 0)) refl
 number-at (x ∷ xs) rest small (suc i) h =
-    let next : 2 * suc i ≡ suc (suc (2 * i)) = omega arith in
-    rw next (number-at xs rest (λ j. small (suc j)) i (omega arith))
+    let next : 2 * suc i ≡ 2 + 2 * i = omega arith in
+    rw next (sym (num-drop 2 (2 * i) 2 ((bytes 2 x ++ numberBytes xs) ++ rest)) ∙ number-at xs rest (λ j. small (suc j)) i (omega arith))
 
 words-take : (n : ℕ) (xs : List ℕ) → Words xs → Words (take n xs)
 words-take zero xs small i = omega arith
@@ -71,13 +72,12 @@ module _ (ks rest : List ℕ) (small : Words ks) (few : givenCount ks ≤ 8190) 
       ∙ getD-take (4 * givenCount ks) ks i 0 h
 
   pub entry-back : (k : ℕ) → k < givenCount ks → entryOf after k ≡ givenEntry ks k
-  unfolding entryOf
   entry-back k h =
       let key = given-at (8 + 8 * k) (4 * k) (omega arith) (omega arith) in
       let location = given-at (8 + 8 * k + 2) (4 * k + 1) (omega arith) (omega arith) in
       let count = given-at (8 + 8 * k + 4) (4 * k + 2) (omega arith) (omega arith) in
       let index = given-at (8 + 8 * k + 6) (4 * k + 3) (omega arith) (omega arith) in
-      λ i. record { key = key i; location = location i; count = count i; index = index i }
+      entry-is after k ∙ (λ i. record { key = key i; location = location i; count = count i; index = index i })
 
   pub key-back : (k : ℕ) → k < givenCount ks → keyOf after k ≡ givenKey ks k
   unfolding givenKey
@@ -92,8 +92,7 @@ module _ (ks rest : List ℕ) (small : Words ks) (few : givenCount ks ≤ 8190) 
 
     -- each key is found at its own place
     pub place-back : (k : ℕ) → k < givenCount ks → placeOf (keyOf after) (givenKey ks k) (countOf after) ≡ k
-    unfolding placeOf
-    place-back k h = ap (placeOf (keyOf after) (givenKey ks k)) count-back ∙ go (sought (keyOf after) (givenKey ks k) 0 (givenCount ks))
+    place-back k h = ap (placeOf (keyOf after) (givenKey ks k)) count-back ∙ go (placed (keyOf after) (givenKey ks k) (givenCount ks))
       where
         go : {p : ℕ} → Sought (keyOf after) (givenKey ks k) 0 (givenCount ks) p → p ≡ k
         go {p} (there f l e) = only (keyOf after) (givenCount ks) rising-back p k (omega arith) h (e ∙ sym (key-back k h))

@@ -7,7 +7,7 @@ use mathlib.Core.Logic.{_↔_}
 use native.Mathlib.Omega.{arith}
 use Rattle.refusal.specs.declared.Refusal.{Refusal}
 use Rattle.first_vlr.specs.declared.FirstVlr.the-variants as first
-use Rattle.directory.specs.Directory.{countOf, keyOf, entryOf, passes}
+use Rattle.directory.specs.Directory.{countOf, keyOf, entryOf}
 use Rattle.directory_write.specs.Written.{givenCount, givenKey, directoryBytes}
 use Rattle.directory_write.specs.Exact.{givenEntry}
 use Rattle.directory_write.specs.Back as back
@@ -21,7 +21,7 @@ use Rattle.keys.specs.declared.Got.the-variants as got
 use Rattle.keys.specs.Keys.{openedOf, keyAtOf, foundOf, gotOf}
 use Rattle.keys.specs.Exact.{valueIn, Sound, Unopened, RefusedFor, FoundAt}
 use Rattle.keys.specs.Told as told
-use Rattle.keys.specs.Told.{Lies}
+use Rattle.keys.specs.Told.{Lies, keysIn, directoryOf}
 
 module _ (allowance x : ℕ) (s : List ℕ) where
   -- "Refusals, in order, each over the whole directory: file check; no directory; directory short; keys not rising; unknown location; target
@@ -35,9 +35,12 @@ module _ (allowance x : ℕ) (s : List ℕ) where
   given-exactly v = (told.was-given allowance s x, λ (d, k, f, is). told.then-given allowance s x f ∙ ap got.Value (sym is))
 
 module _ (allowance : ℕ) (s : List ℕ) where
-  -- Opening is refused for the same reasons, but for the key.
+  -- Opening is refused for the same reasons, but for the key, and else answers where the keys of a sound directory stand.
   pub unopened-exactly : (why : Refusal) (j : ℕ) → (openedOf allowance s ≡ opened.Refused why j) ↔ Unopened allowance s why j
   unopened-exactly why j = (told.was-unopened allowance s, told.then-unopened allowance s)
+
+  pub opened-exactly : (ks : Keys) → (openedOf allowance s ≡ opened.Keys ks) ↔ ((d : List ℕ) × (sound : Sound allowance s d) × (ks ≡ keysIn allowance s (directoryOf allowance s sound)))
+  opened-exactly ks = (told.was-opened allowance s, λ (d, sound, is). told.then-opened allowance s sound ∙ ap opened.Keys (sym is))
 
   -- Of the keys that a file with a sound directory opens to:
   module _ {d : List ℕ} (sound : Sound allowance s d) {ks : Keys} (are : openedOf allowance s ≡ opened.Keys ks) where
@@ -77,9 +80,7 @@ module _ (allowance : ℕ) (s : List ℕ) where
     number is = rw is
 
     pub doubles : entryOf d k .location ≡ 34736 → (let e = entryOf d k in (l : Lies allowance s 34736 (8 * (e .index + e .count))) × (valueIn s e ≡ Doubles (l .start + 8 * e .index) (8 * e .count)))
-    unfolding passes
-    doubles is = let l = told.doubles-lie allowance s (entryOf d k) is (sound .1 k below) in (l, told.doubles-are allowance s (entryOf d k) is l)
+    doubles is = let l = told.doubles-lie allowance s (entryOf d k) is (told.ends allowance s sound k below) in (l, told.doubles-are allowance s (entryOf d k) is l)
 
     pub text : entryOf d k .location ≡ 34737 → (let e = entryOf d k in (l : Lies allowance s 34737 (e .index + e .count)) × (valueIn s e ≡ Text (l .start + e .index) (e .count)))
-    unfolding passes
-    text is = let l = told.text-lies allowance s (entryOf d k) is (sound .1 k below) in (l, told.text-is allowance s (entryOf d k) is l)
+    text is = let l = told.text-lies allowance s (entryOf d k) is (told.ends allowance s sound k below) in (l, told.text-is allowance s (entryOf d k) is l)

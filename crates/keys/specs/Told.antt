@@ -25,7 +25,7 @@ use Rattle.directory.specs.declared.Question.{Question}
 use Rattle.directory.specs.declared.Question.the-variants.{Rising, Known, There, Within}
 use Rattle.directory.specs.Directory.{countOf, keyOf, entryOf, holds, within, passes, judgedOf, placeOf}
 use Rattle.directory.specs.Laws as judging
-use Rattle.directory.specs.Order.{Sought, there, nowhere, sought, only}
+use Rattle.directory.specs.Order.{Sought, there, nowhere, placed, only}
 use Rattle.keys.specs.declared.Keys.{Keys}
 use Rattle.keys.specs.declared.Opened.{Opened}
 use Rattle.keys.specs.declared.Opened.the-variants as opened
@@ -140,13 +140,18 @@ module _ (allowance : ℕ) (s : List ℕ) where
     abbrev ks : Keys
     ks = keysIn (directoryOf sound)
 
+    -- what each entry points to ends in its record
+    pub ends : (k : ℕ) → k < countOf d → within doubles text (entryOf d k) ≡ true
+    ends k h = sym (judging.asks-within d k doubles text) ∙ sound .1 k h
+
     -- each key in turn, and no more
     pub each-told : (k : ℕ) → k < countOf d → keyAtOf ks k s ≡ Is (keyOf d k) (valueIn s (entryOf d k))
-    unfolding keyAtOf entryOf passes
+    unfolding keyAtOf
     each-told k h =
         ap (λ (b : Bool). cond b Nothing (toldOf (length s) ks (entryOf (directoryIn ks s) k))) (lt-leb _ _ h)
         ∙ ap (λ (l : List ℕ). toldOf (length s) ks (entryOf l k)) (sym (directoryOf sound .is))
-        ∙ told-is (directoryOf sound) (entryOf d k) (sound .1 k h)
+        ∙ told-is (directoryOf sound) (entryOf d k) (ends k h)
+        ∙ ap (λ (e : Entry). Is (e .key) (valueIn s (entryOf d k))) (judging.entry-is d k)
 
     pub no-more : (k : ℕ) → countOf d ≤ k → keyAtOf ks k s ≡ Nothing
     unfolding keyAtOf
@@ -154,8 +159,7 @@ module _ (allowance : ℕ) (s : List ℕ) where
 
     -- no two entries have the same key
     pub only-one : (j k : ℕ) → j < countOf d → k < countOf d → keyOf d j ≡ keyOf d k → j ≡ k
-    unfolding passes
-    only-one j k h l e = only (keyOf d) (countOf d) (sound .0 .0 .0 .1) j k h l e
+    only-one j k h l e = only (keyOf d) (countOf d) (λ i below. sym (judging.asks-rising d i doubles text) ∙ sound .0 .0 .0 .1 i below) j k h l e
 
     -- a key that is there, and one that is not
     place : (x : ℕ) → foundOf ks x s ≡ keyAtOf ks (placeOf (keyOf d) x (countOf d)) s
@@ -163,8 +167,7 @@ module _ (allowance : ℕ) (s : List ℕ) where
     place x = ap (λ (l : List ℕ). keyAtOf ks (placeOf (keyOf l) x (countOf d)) s) (sym (directoryOf sound .is))
 
     pub found-there : (x k : ℕ) → k < countOf d → keyOf d k ≡ x → foundOf ks x s ≡ Is x (valueIn s (entryOf d k))
-    unfolding placeOf
-    found-there x k h e = place x ∙ go (sought (keyOf d) x 0 (countOf d))
+    found-there x k h e = place x ∙ go (placed (keyOf d) x (countOf d))
       where
         go : {p : ℕ} → Sought (keyOf d) x 0 (countOf d) p → keyAtOf ks p s ≡ Is x (valueIn s (entryOf d k))
         go {p} (there f l is) =
@@ -173,8 +176,7 @@ module _ (allowance : ℕ) (s : List ℕ) where
         go (nowhere is none) = absurd (none k (omega arith) (omega arith) e)
 
     pub found-nowhere : (x : ℕ) → ((k : ℕ) → k < countOf d → keyOf d k ≡ x → ⊥) → foundOf ks x s ≡ Nothing
-    unfolding placeOf
-    found-nowhere x none = place x ∙ go (sought (keyOf d) x 0 (countOf d))
+    found-nowhere x none = place x ∙ go (placed (keyOf d) x (countOf d))
       where
         go : {p : ℕ} → Sought (keyOf d) x 0 (countOf d) p → keyAtOf ks p s ≡ Nothing
         go {p} (there f l is) = absurd (none p (omega arith) is)
@@ -250,6 +252,16 @@ module _ (allowance : ℕ) (s : List ℕ) where
   pub opened-are : {d : List ℕ} (sound : Sound allowance s d) {ks : Keys} → openedOf allowance s ≡ opened.Keys ks → ks ≡ keysIn allowance s (directoryOf allowance s sound)
   opened-are sound are = let told = then-opened allowance s sound in cc
 
+  pub was-opened : {ks : Keys} → openedOf allowance s ≡ opened.Keys ks → (d : List ℕ) × (sound : Sound allowance s d) × (ks ≡ keysIn allowance s (directoryOf allowance s sound))
+  was-opened {ks} e = go opening
+    where
+      go : Opening → (d : List ℕ) × (sound : Sound allowance s d) × (ks ≡ keysIn allowance s (directoryOf allowance s sound))
+      go (refused {why = r} {j = k} u) =
+          let told : openedOf allowance s ≡ opened.Refused r k = then-unopened allowance s u in
+          let z : _≡_ {A = ℕ} 0 1 = cc in
+          absurd (omega arith)
+      go (read {d} sound) = (d, sound, opened-are sound e)
+
   module _ (x : ℕ) where
     pub data Outcome : Type 0 where
       refused-for : {why : Refusal} {j : ℕ} → RefusedFor allowance s x why j → Outcome
@@ -264,7 +276,7 @@ module _ (allowance : ℕ) (s : List ℕ) where
 
         go : Opening → Outcome
         go (refused u) = refused-for (unopened u)
-        go (read {d} sound) = by-place sound (sought (keyOf d) x 0 (countOf d))
+        go (read {d} sound) = by-place sound (placed (keyOf d) x (countOf d))
 
     pub was-refused : {why : Refusal} {j : ℕ} → gotOf allowance x s ≡ got.Refused why j → RefusedFor allowance s x why j
     was-refused {why} {j} e = go outcome
