@@ -1,14 +1,14 @@
 //! Runs every comparison and says whether nothing differed.
 
 use oracle::{
-    angle, append, attribute, column, convert, convert_plain, file, flags, format, header,
+    angle, append, attribute, column, convert, convert_plain, file, flags, format, header, keys,
     listings, migrate, nir, point, reclassify, replay, replay_append, replay_attribute,
     replay_column, replay_migrate, replay_reclassify, replay_records, report::Tally, strict, vlr,
 };
 use std::{env, fs, io, path::Path, process::ExitCode};
 
 /// What there is to compare, by the name that it is asked for by.
-const SUBJECTS: [&str; 17] = [
+const SUBJECTS: [&str; 18] = [
     "format",
     "flags",
     "angle",
@@ -18,6 +18,7 @@ const SUBJECTS: [&str; 17] = [
     "file",
     "column",
     "attribute",
+    "keys",
     "append",
     "reclassify",
     "strict",
@@ -42,6 +43,7 @@ fn compare(crates: &Path, write: bool, asked: &[String]) -> io::Result<bool> {
         ("file", file::compare),
         ("column", column::compare),
         ("attribute", attribute::compare),
+        ("keys", keys::compare),
         ("append", append::compare),
         ("reclassify", reclassify::compare),
         ("strict", strict::compare),
