@@ -5,9 +5,7 @@ use crate::{
     capi::{self, Row},
     file_model::Found,
     files::Patch,
-    keys_files::{
-        Four, Made, Record, directory, made_up, one, real, small, some_byte, some_place,
-    },
+    keys_files::{Four, Made, Record, directory, made_up, one, real, small, some_byte, some_place},
     keys_model::{self as model, DIRECTORY, DOUBLES, Key, Keys, MOST, TEXT},
     keys_wrong::{ERRORS, StandIn},
     records::Lcg,
@@ -50,6 +48,25 @@ impl Library for Port {
 /// What lent memory holds before a call, so that what is written where nothing may be shows.
 const BEFORE: u64 = 0xa5a5_a5a5_a5a5_a5a5;
 const BEFORE_BYTE: u8 = 0xa5;
+
+/// Five numbers as they are lent, between two others that no call has any business with.
+struct Lent([u64; 7]);
+
+impl Lent {
+    fn new() -> Lent {
+        Lent([BEFORE; 7])
+    }
+
+    /// As they are to be when a call has told these.
+    fn told([a, b, c, d, e]: [u64; 5]) -> [u64; 7] {
+        [BEFORE, a, b, c, d, e, BEFORE]
+    }
+
+    fn numbers(&mut self) -> &mut [u64; 5] {
+        let [_, numbers @ .., _] = &mut self.0;
+        numbers
+    }
+}
 
 /// How many bytes there are past a room.
 const SPARE: usize = 3;
@@ -152,11 +169,16 @@ const BACK: usize = 5;
 const LEFT: usize = 6;
 
 /// What a result is, with what is lent: it is filled where the call is answered and stays where it is refused.
-fn lent(result: Result<(u64, [u64; 5]), Answer>) -> (Answer, [u64; 5]) {
+fn lent(result: Result<(u64, [u64; 5]), Answer>) -> (Answer, [u64; 7]) {
     match result {
-        Ok((value, told)) => (Answer::result(value), told),
-        Err(refusal) => (refusal, [BEFORE; 5]),
+        Ok((value, told)) => (Answer::result(value), Lent::told(told)),
+        Err(refusal) => (refusal, [BEFORE; 7]),
     }
+}
+
+/// The same of whether a key is there.
+fn there(key: Option<Key>) -> (u8, [u64; 7]) {
+    (u8::from(key.is_some()), key.map_or([BEFORE; 7], Lent::told))
 }
 
 /// Compares a library with the rules on one input after another. Everything is used again.
@@ -212,10 +234,13 @@ impl<'a, L: Library> Comparison<'a, L> {
     fn keys(&mut self, allowance: u64, told: &dyn Fn() -> String) -> Option<Keys> {
         let rules = model::keys(&mut self.found, &self.file, allowance);
         let expected = lent(rules);
-        let mut numbers = [BEFORE; 5];
-        let row = capi::row(|row| self.port.keys(&self.shown, allowance, &mut numbers, row));
+        let mut numbers = Lent::new();
+        let row = capi::row(|row| {
+            self.port
+                .keys(&self.shown, allowance, numbers.numbers(), row)
+        });
         self.outcome.counted.answered(expected.0.number);
-        self.check(OPEN, expected, (row, numbers), || {
+        self.check(OPEN, expected, (row, numbers.0), || {
             format!("{}, allowance {allowance}", told())
         });
         rules.ok().map(|(_, numbers)| numbers)
@@ -224,10 +249,9 @@ impl<'a, L: Library> Comparison<'a, L> {
     /// A key by its number, of keys that were told or made up.
     fn at(&mut self, keys: Keys, k: u16, told: &dyn Fn() -> String) -> Option<Key> {
         let rules = model::at(&self.file, keys, k);
-        let mut key = [BEFORE; 5];
-        let there = self.port.at(&self.shown, &keys, k, &mut key);
-        let expected = (u8::from(rules.is_some()), rules.unwrap_or([BEFORE; 5]));
-        self.check(AT, expected, (there, key), || {
+        let mut key = Lent::new();
+        let by_port = self.port.at(&self.shown, &keys, k, key.numbers());
+        self.check(AT, there(rules), (by_port, key.0), || {
             format!("{}, {keys:?}, key {k}", told())
         });
         rules
@@ -236,10 +260,9 @@ impl<'a, L: Library> Comparison<'a, L> {
     /// A key by itself, in the same way.
     fn find(&mut self, keys: Keys, wanted: u16, told: &dyn Fn() -> String) {
         let rules = model::find(&self.file, keys, wanted);
-        let mut key = [BEFORE; 5];
-        let there = self.port.find(&self.shown, &keys, wanted, &mut key);
-        let expected = (u8::from(rules.is_some()), rules.unwrap_or([BEFORE; 5]));
-        self.check(FIND, expected, (there, key), || {
+        let mut key = Lent::new();
+        let by_port = self.port.find(&self.shown, &keys, wanted, key.numbers());
+        self.check(FIND, there(rules), (by_port, key.0), || {
             format!("{}, {keys:?}, wanted {wanted}", told())
         });
     }
@@ -248,13 +271,13 @@ impl<'a, L: Library> Comparison<'a, L> {
     fn key(&mut self, allowance: u64, wanted: u16, told: &dyn Fn() -> String) {
         let rules = model::key(&mut self.found, &self.file, allowance, wanted);
         let expected = lent(rules.map(|key| (0, key)));
-        let mut key = [BEFORE; 5];
+        let mut key = Lent::new();
         let row = capi::row(|row| {
             self.port
-                .key(&self.shown, allowance, wanted, &mut key, row)
+                .key(&self.shown, allowance, wanted, key.numbers(), row)
         });
         self.outcome.counted.answered(expected.0.number);
-        self.check(KEY, expected, (row, key), || {
+        self.check(KEY, expected, (row, key.0), || {
             format!("{}, allowance {allowance}, wanted {wanted}", told())
         });
     }
@@ -388,8 +411,15 @@ fn count<L>(comparison: &mut Comparison<L>, made: &Made, keys: Option<Keys>) {
     let Some(keys) = keys else { return };
     counts[WITH] += u64::from(keys[0] > 0);
     counts[NONE] += u64::from(keys[0] == 0);
-    let ends: Vec<u64> = made.whole.vlrs.iter().map(|&(at, n)| (at + 54 + n) as u64).collect();
-    for [_, location, _, start, length] in model::every(&mut comparison.found, &comparison.file, u64::MAX) {
+    let ends: Vec<u64> = made
+        .whole
+        .vlrs
+        .iter()
+        .map(|&(at, n)| (at + 54 + n) as u64)
+        .collect();
+    for [_, location, _, start, length] in
+        model::every(&mut comparison.found, &comparison.file, u64::MAX)
+    {
         counts[KEYS] += 1;
         counts[match location as u16 {
             0 => NUMBER,
@@ -417,7 +447,14 @@ fn long<L: Library>(library: &L, lot: Lot) -> Outcome {
             }
         }
         let mut wanted: Vec<u16> = (0..20).map(|_| one(&mut random, &made.keys)[0]).collect();
-        wanted.extend([first, last, last.wrapping_add(1), first.wrapping_sub(1), 0, 65_535]);
+        wanted.extend([
+            first,
+            last,
+            last.wrapping_add(1),
+            first.wrapping_sub(1),
+            0,
+            65_535,
+        ]);
         for wanted in wanted {
             if let Some(keys) = keys {
                 comparison.find(keys, wanted, &told);
@@ -480,12 +517,7 @@ fn damaged<L: Library>(library: &L, lot: Lot) -> Outcome {
 }
 
 /// Numbers of keys that no call gives, shown to the file that was taken up; and those of the whole file, with less of it.
-fn made_ups<L: Library>(
-    comparison: &mut Comparison<L>,
-    made: &Made,
-    random: &mut Lcg,
-    times: u64,
-) {
+fn made_ups<L: Library>(comparison: &mut Comparison<L>, made: &Made, random: &mut Lcg, times: u64) {
     let told = || format!("file ({}), made up", made.whole);
     let size = comparison.file.len() as u64;
     let like = model::keys(&mut comparison.found, &comparison.file, u64::MAX);
@@ -494,7 +526,13 @@ fn made_ups<L: Library>(
     for _ in 0..times {
         let keys = made_up(random, like, size);
         let last = keys[0].min(9) as u16;
-        for k in [0, last / 2, last, keys[0] as u16, (keys[0] as u16).wrapping_sub(1)] {
+        for k in [
+            0,
+            last / 2,
+            last,
+            keys[0] as u16,
+            (keys[0] as u16).wrapping_sub(1),
+        ] {
             comparison.at(keys, k, &told);
         }
         for _ in 0..3 {
@@ -565,7 +603,9 @@ fn ask<L: Library>(
 fn every_length<L: Library>(library: &L) -> Outcome {
     over(library, 9, |comparison, many| {
         let many = many as usize;
-        let plain: Vec<Four> = (0..many as u16).map(|k| [10 + 2 * k, 0, 1, 900 + k]).collect();
+        let plain: Vec<Four> = (0..many as u16)
+            .map(|k| [10 + 2 * k, 0, 1, 900 + k])
+            .collect();
         let wanted: Vec<u16> = (9..28).chain([0, 65_535]).collect();
         for stated in 0..=many as u16 + 2 {
             for length in 0..=8 * many + 24 {
@@ -581,13 +621,21 @@ fn every_length<L: Library>(library: &L) -> Outcome {
             ask(comparison, &small(&data, None, None), &wanted, &told);
         }
         for k in 1..many {
-            for (key, location) in (0..40).chain([65_534, 65_535]).flat_map(|n| [(n, 0), (n, 1)]) {
+            for (key, location) in (0..40)
+                .chain([65_534, 65_535])
+                .flat_map(|n| [(n, 0), (n, 1)])
+            {
                 let mut keys = plain.clone();
                 keys[k][0] = key;
                 keys[many - 1][1] = location;
                 let told = || format!("{many} keys, number {k} is {key}, location {location}");
                 let data = directory([1, 1, 0, many as u16], &keys);
-                ask(comparison, &small(&data, None, None), &[key, 9, 10, 12], &told);
+                ask(
+                    comparison,
+                    &small(&data, None, None),
+                    &[key, 9, 10, 12],
+                    &told,
+                );
             }
         }
     })
@@ -596,7 +644,9 @@ fn every_length<L: Library>(library: &L) -> Outcome {
 /// Every index and every count around the end of doubles and text of every small length, and at the ends of 16 bits; and
 /// of records as long as their field allows.
 fn every_part<L: Library>(library: &L) -> Outcome {
-    let lengths: Vec<usize> = (0..42).chain([4_096, 32_768, 65_520, 65_528, 65_535]).collect();
+    let lengths: Vec<usize> = (0..42)
+        .chain([4_096, 32_768, 65_520, 65_528, 65_535])
+        .collect();
     over(library, 2 * lengths.len() as u64, |comparison, i| {
         let length = lengths[i as usize / 2];
         let (location, unit) = [(DOUBLES, 8), (TEXT, 1)][i as usize % 2];
@@ -605,8 +655,12 @@ fn every_part<L: Library>(library: &L) -> Outcome {
             _ => (Some(3), Some(length)),
         };
         let end = (length / unit) as u64;
-        let mut numbers: Vec<u16> = (0..7).chain([8_191, 8_192, 32_767, 32_768, 65_534, 65_535]).collect();
-        numbers.extend([end / 2, end.saturating_sub(1), end, end + 1, length as u64].map(|n| n as u16));
+        let mut numbers: Vec<u16> = (0..7)
+            .chain([8_191, 8_192, 32_767, 32_768, 65_534, 65_535])
+            .collect();
+        numbers.extend(
+            [end / 2, end.saturating_sub(1), end, end + 1, length as u64].map(|n| n as u16),
+        );
         numbers.sort_unstable();
         numbers.dedup();
         for &index in &numbers {
@@ -646,7 +700,12 @@ fn every_order<L: Library>(library: &L) -> Outcome {
         let mut data = directory([1, 1, 0, 4], &keys);
         data.truncate(data.len() - [0, 1, 8][more]);
         let told = || format!("{keys:?}, short by {more}");
-        ask(comparison, &small(&data, Some(16), None), &[3, 10, 11, 12, 13, 500], &told);
+        ask(
+            comparison,
+            &small(&data, Some(16), None),
+            &[3, 10, 11, 12, 13, 500],
+            &told,
+        );
     })
 }
 
@@ -673,9 +732,9 @@ fn written<L: Library>(library: &L, lot: Lot) -> Outcome {
         let many = match i % 400 {
             0 => MOST as u64 - 1,
             1 | 2 => MOST as u64,
-            3 | 4 => MOST as u64 + 1,
-            5 => one(&mut random, &[8_192, 16_384, 20_000]),
-            6 => 256 + random.below(2_000),
+            3..6 => MOST as u64 + 1,
+            6 => one(&mut random, &[8_192, 16_384, 20_000]),
+            7 => 256 + random.below(2_000),
             k => k % 20,
         };
         let step = match many {
@@ -695,7 +754,11 @@ fn written<L: Library>(library: &L, lot: Lot) -> Outcome {
             };
             let count = random.below(8) as u16;
             let value = (random.word() as u16) >> random.below(4);
-            let value = if location == DOUBLES { value % 8_183 } else { value };
+            let value = if location == DOUBLES {
+                value % 8_183
+            } else {
+                value
+            };
             let value = if random.one_in(60) { 65_535 } else { value };
             numbers.extend([key, location, count, value]);
             key = key.wrapping_add(1 + random.below(step) as u16);
@@ -755,7 +818,10 @@ const REFUSED: [(&[(usize, u8)], Row); 31] = [
     (&[(288, 1)], [43, 0, 0]),
     (&[(287, 3)], [0, 3, 0]),
     (&[(287, 0)], [0, 0, 0]),
-    (&[(281, 9), (282, 9), (283, 9), (284, 9), (285, 9), (286, 9)], [0, 4, 0]),
+    (
+        &[(281, 9), (282, 9), (283, 9), (284, 9), (285, 9), (286, 9)],
+        [0, 4, 0],
+    ),
     // "keys not rising": equal is not
     (&[(297, 0)], [44, 0, 0]),
     (&[(297, 1)], [0, 4, 0]),
@@ -788,7 +854,12 @@ const WANTED: [(&[(usize, u8)], u16, Row, Key); 10] = [
     (&[], 3_072, [0, 0, 0], [3_072, 0, 32_632, 0, 0]),
     (&[], 1_026, [0, 0, 0], [1_026, 34_737, 0, 448, 2]),
     (&[], 2_057, [0, 0, 0], [2_057, 34_736, 0, 383, 8]),
-    (&[(311, 0), (309, 2)], 2_057, [0, 0, 0], [2_057, 34_736, 0, 375, 16]),
+    (
+        &[(311, 0), (309, 2)],
+        2_057,
+        [0, 0, 0],
+        [2_057, 34_736, 0, 375, 16],
+    ),
     (&[], 1_025, [48, 0, 0], [BEFORE; 5]),
     (&[], 0, [48, 0, 0], [BEFORE; 5]),
     // behind those that are counted
@@ -843,12 +914,15 @@ fn compare_described(library: &impl Library) -> Report {
         });
     }
     for (besides, wanted, stated, told) in WANTED {
-        let (file, stated) = (by_hand(besides), (answer(stated), told));
+        let (file, stated) = (by_hand(besides), (answer(stated), Lent::told(told)));
         let rules = lent(model::key(&mut found, &file, 9, wanted).map(|key| (0, key)));
-        let mut key = [BEFORE; 5];
-        let row = capi::row(|row| library.key(&file, 9, wanted, &mut key, row));
-        report.check([rules, (row, key)] == [stated; 2], || {
-            format!("{besides:?}, {wanted}: {stated:?}, rules {rules:?}, port {row} {key:?}")
+        let mut key = Lent::new();
+        let row = capi::row(|row| library.key(&file, 9, wanted, key.numbers(), row));
+        report.check([rules, (row, key.0)] == [stated; 2], || {
+            format!(
+                "{besides:?}, {wanted}: {stated:?}, rules {rules:?}, port {row} {:?}",
+                key.0
+            )
         });
     }
     for (numbers, room, stated, bytes) in WRITTEN_BY_HAND {

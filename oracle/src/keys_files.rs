@@ -66,7 +66,8 @@ fn some_part(random: &mut Lcg, entries: u16) -> [u16; 2] {
 /// A location that there isn't: beside one that there is, in either byte, or any.
 fn other_location(random: &mut Lcg) -> u16 {
     let near = [
-        1, 2, 255, 256, 34_734, 34_735, 34_738, 34_739, 34_480, 34_992, 1_968, 32_767, 32_768, 65_535,
+        1, 2, 255, 256, 34_734, 34_735, 34_738, 34_739, 34_480, 34_992, 1_968, 32_767, 32_768,
+        65_535,
     ];
     match random.below(3) {
         0 => (random.word() as u16).max(1),
@@ -406,7 +407,10 @@ pub fn made_up(random: &mut Lcg, like: [u64; 5], file: u64) -> [u64; 5] {
             9 => random.below(file + 1),
             10 => 65_535 + random.below(3),
             11 => like[k].wrapping_add(random.below(17)).wrapping_sub(8),
-            12 => file.wrapping_sub(like[1]).wrapping_add(random.below(3)).wrapping_sub(1),
+            12 => file
+                .wrapping_sub(like[1])
+                .wrapping_add(random.below(3))
+                .wrapping_sub(1),
             _ => like[k] | 1 << (16 + random.below(48)),
         };
     }

@@ -5,12 +5,7 @@
 //! The file check and the parts are those of `file_model`, the first VLR is that of `attribute_model`; all else is
 //! taken from the bytes here, in 128 bits, in which no sum or product wraps.
 
-use crate::{
-    answer::Answer,
-    attribute_model::vlr_first,
-    capi::Span,
-    file_model::Found,
-};
+use crate::{answer::Answer, attribute_model::vlr_first, capi::Span, file_model::Found};
 
 /// "User id LASF_Projection, first VLRs 34735 (u16 directory), 34736 (doubles) and 34737 (text)".
 pub const USER: &[u8] = b"LASF_Projection";
@@ -158,12 +153,7 @@ impl All {
 }
 
 /// "Give a key's value or its part": "key not found".
-pub fn key(
-    found: &mut Found,
-    file: &[u8],
-    allowance: u64,
-    wanted: u16,
-) -> Result<Key, Answer> {
+pub fn key(found: &mut Found, file: &[u8], allowance: u64, wanted: u16) -> Result<Key, Answer> {
     let all = all(found, file, allowance)?;
     match all.keys.iter().find(|four| four[0] == wanted) {
         Some(&four) => Ok(told(file, all.starts(), four).expect("within its record")),

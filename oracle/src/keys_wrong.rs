@@ -522,9 +522,7 @@ impl StandIn {
             Some(IndexAlone) => unit * index <= length,
             Some(CountAlone) => unit * count <= length,
             Some(RestOfADoubleCounts) => index + count <= length.div_ceil(unit),
-            Some(BeyondTheFileOnly) => {
-                start as u64 + unit * (index + count) <= file.len() as u64
-            }
+            Some(BeyondTheFileOnly) => start as u64 + unit * (index + count) <= file.len() as u64,
             Some(BeyondOfTheFirstOnly) if k > 0 => true,
             Some(BeyondOfTheLastNot) if k > 0 && k + 1 == told.entries.len() => true,
             _ => unit * (index + count) <= length,
@@ -586,35 +584,35 @@ impl StandIn {
             _ => n,
         };
         let failing = |end: usize, test: &dyn Fn(usize) -> bool| (0..end).find(|&k| !test(k));
-        let rising = || match failing(up_to(EarlierKeyInSpiteOfALaterFall), &|k| self.rises(told, k)) {
+        let rising = || match failing(up_to(EarlierKeyInSpiteOfALaterFall), &|k| {
+            self.rises(told, k)
+        }) {
             Some(k) if self.has(RisingWithItsNumber) => Err([44, 0, k as u64 + 1]),
             Some(_) => Err([44, 0, 0]),
             None => Ok(()),
         };
-        let known = || {
-            match failing(up_to(EarlierKeyInSpiteOfALaterLocation), &|k| self.known(told, k)) {
-                Some(_) if self.has(UnknownIs46) => Err([46, 0, 0]),
-                Some(k) if self.has(LocationTold) => Err([45, told.entries[k].location, 0]),
-                Some(_) => Err([45, 0, 0]),
-                None => Ok(()),
-            }
+        let known = || match failing(up_to(EarlierKeyInSpiteOfALaterLocation), &|k| {
+            self.known(told, k)
+        }) {
+            Some(_) if self.has(UnknownIs46) => Err([46, 0, 0]),
+            Some(k) if self.has(LocationTold) => Err([45, told.entries[k].location, 0]),
+            Some(_) => Err([45, 0, 0]),
+            None => Ok(()),
         };
-        let there = || {
-            match failing(up_to(EarlierKeyInSpiteOfALaterAbsence), &|k| self.there(told, k)) {
-                Some(_) if self.has(AbsentIsBeyond) => Err([47, 0, 0]),
-                Some(k) if self.has(AbsentWithTheLocation) => {
-                    Err([46, told.entries[k].location, 0])
-                }
-                Some(_) => Err([46, 0, 0]),
-                None => Ok(()),
-            }
+        let there = || match failing(up_to(EarlierKeyInSpiteOfALaterAbsence), &|k| {
+            self.there(told, k)
+        }) {
+            Some(_) if self.has(AbsentIsBeyond) => Err([47, 0, 0]),
+            Some(k) if self.has(AbsentWithTheLocation) => Err([46, told.entries[k].location, 0]),
+            Some(_) => Err([46, 0, 0]),
+            None => Ok(()),
         };
-        let within = || {
-            match failing(up_to(EarlierKeyInSpiteOfALaterEnd), &|k| self.within(file, told, k)) {
-                Some(k) if self.has(BeyondWithItsKey) => Err([47, told.entries[k].key, 0]),
-                Some(_) => Err([47, 0, 0]),
-                None => Ok(()),
-            }
+        let within = || match failing(up_to(EarlierKeyInSpiteOfALaterEnd), &|k| {
+            self.within(file, told, k)
+        }) {
+            Some(k) if self.has(BeyondWithItsKey) => Err([47, told.entries[k].key, 0]),
+            Some(_) => Err([47, 0, 0]),
+            None => Ok(()),
         };
         let not_found = |error| match missing && self.has(error) {
             true => Err([48, 0, 0]),
@@ -785,7 +783,9 @@ impl StandIn {
         if self.has(AtBeyondTheDirectoryNone) && end > directory.len() {
             return None;
         }
-        let all = keys[1].checked_add(keys[2]).is_some_and(|end| end <= file.len() as u64);
+        let all = keys[1]
+            .checked_add(keys[2])
+            .is_some_and(|end| end <= file.len() as u64);
         if self.has(AtBeyondTheFileNone) && !all {
             return None;
         }
@@ -1022,7 +1022,9 @@ impl Library for StandIn {
             false => [49, 0, 0],
         };
         let judged = self.has(WriteLocationsJudged)
-            && keys.iter().any(|key| !matches!(key[1], 0 | 34_736 | 34_737));
+            && keys
+                .iter()
+                .any(|key| !matches!(key[1], 0 | 34_736 | 34_737));
         let mut tests = vec![
             (falling, [44, 0, 0]),
             (too_many, over),

@@ -63,6 +63,7 @@ pub mod replay_append;
 pub mod replay_attribute;
 pub mod replay_column;
 pub mod replay_frame;
+pub mod replay_keys;
 pub mod replay_migrate;
 pub mod replay_reclassify;
 pub mod replay_records;
