@@ -10,6 +10,7 @@ use crate::{
     keys_wrong::{ERRORS, StandIn},
     records::Lcg,
     report::{self, Report, Tally, stretches},
+    sparse::Sparse,
 };
 
 /// The calls on coordinate keys. The port has them, and so have the stand-ins that test the comparison itself.
@@ -177,7 +178,7 @@ fn lent(result: Result<(u64, [u64; 5]), Answer>) -> (Answer, [u64; 7]) {
 }
 
 /// The same of whether a key is there.
-fn there(key: Option<Key>) -> (u8, [u64; 7]) {
+fn there_by(key: Option<Key>) -> (u8, [u64; 7]) {
     (u8::from(key.is_some()), key.map_or([BEFORE; 7], Lent::told))
 }
 
@@ -251,7 +252,7 @@ impl<'a, L: Library> Comparison<'a, L> {
         let rules = model::at(&self.file, keys, k);
         let mut key = Lent::new();
         let by_port = self.port.at(&self.shown, &keys, k, key.numbers());
-        self.check(AT, there(rules), (by_port, key.0), || {
+        self.check(AT, there_by(rules), (by_port, key.0), || {
             format!("{}, {keys:?}, key {k}", told())
         });
         rules
@@ -262,7 +263,7 @@ impl<'a, L: Library> Comparison<'a, L> {
         let rules = model::find(&self.file, keys, wanted);
         let mut key = Lent::new();
         let by_port = self.port.find(&self.shown, &keys, wanted, key.numbers());
-        self.check(FIND, there(rules), (by_port, key.0), || {
+        self.check(FIND, there_by(rules), (by_port, key.0), || {
             format!("{}, {keys:?}, wanted {wanted}", told())
         });
     }
@@ -674,19 +675,20 @@ fn every_part<L: Library>(library: &L) -> Outcome {
     })
 }
 
-/// Two directories faulty in two ways at once, so that the earlier refusal counts, wherever each stands.
+/// Directories of four keys with any set of four faults, one on each key, in every order, whole and short: the earlier
+/// refusal counts, wherever each stands.
 fn every_order<L: Library>(library: &L) -> Outcome {
-    // Not rising, an unknown location, an absent record, and beyond the end: in every set, on keys in every order.
+    // Not rising, an unknown location, an absent record, and beyond the end.
     over(library, 16 * 24 * 3, |comparison, i| {
         let (faults, i) = (i % 16, i / 16);
-        let (mut order, mut rest) = (vec![0, 1, 2, 3], Vec::new());
+        let (mut left, mut order) = (vec![0, 1, 2, 3], Vec::new());
         let mut k = i % 24;
         for n in (1..=4).rev() {
-            rest.push(order.remove((k % n) as usize));
+            order.push(left.remove((k % n) as usize));
             k /= n;
         }
         let mut keys: Vec<Four> = Vec::new();
-        for (k, fault) in (0..).zip(rest) {
+        for (k, fault) in (0..).zip(order) {
             let there = faults >> fault & 1 == 1;
             keys.push(match (fault, there) {
                 (0, true) => [if k == 0 { 500 } else { 3 }, 0, 1, 1],
@@ -709,7 +711,7 @@ fn every_order<L: Library>(library: &L) -> Outcome {
     })
 }
 
-/// One directory of every number of keys in a step, asked for every key that there can be.
+/// A directory of 32 keys, asked for every key and for every number that there can be.
 fn every_key<L: Library>(library: &L, lot: Lot) -> Outcome {
     over(library, (1 << 16) / lot.step, |comparison, i| {
         let wanted = (i * lot.step) as u16;
@@ -785,6 +787,72 @@ fn written<L: Library>(library: &L, lot: Lot) -> Outcome {
         let told = || format!("written {i}");
         comparison.write(&numbers, room, &told);
     })
+}
+
+/// Keys of numbers made by hand around and beyond 2^32, in a file too large to be made, in memory that nobody has touched.
+fn far<L: Library>(library: &L) -> Report {
+    const TWO_32: u64 = 1 << 32;
+    const SIZE: u64 = TWO_32 + 70_000;
+    let mut report = Report::new("keys beyond 2^32");
+    let keys = [
+        [7, 0, 1, 9],
+        [8, TEXT, 5, 2],
+        [9, DOUBLES, 2, 1],
+        [10, 0, 0, 1],
+    ];
+    let data = directory([1, 1, 0, 4], &keys);
+    let bytes = data.len() as u64;
+    let mut memory = Sparse::new(SIZE as usize);
+    for start in [
+        9,
+        TWO_32 - bytes,
+        TWO_32 - 20,
+        TWO_32,
+        TWO_32 + 50,
+        SIZE - bytes,
+        SIZE - 30,
+    ] {
+        let end = SIZE.min(start + bytes);
+        let there = (end - start) as usize;
+        memory[start as usize..end as usize].copy_from_slice(&data[..there]);
+        let places = [
+            0,
+            TWO_32 - 24,
+            TWO_32 - 7,
+            TWO_32,
+            SIZE - 24,
+            SIZE - 23,
+            SIZE - 7,
+            SIZE - 6,
+        ];
+        for [doubles, text] in places.into_iter().flat_map(|n| places.map(|m| [n, m])) {
+            let numbers = [4, start, bytes, doubles, text];
+            for k in 0..5 {
+                let rules = there_by(model::at(&memory, numbers, k));
+                let mut key = Lent::new();
+                let by_port = library.at(&memory, &numbers, k, key.numbers());
+                report.check(rules == (by_port, key.0), || {
+                    format!(
+                        "{numbers:?}, key {k}: {rules:?}, port {by_port} {:?}",
+                        key.0
+                    )
+                });
+            }
+            for wanted in [0, 7, 8, 9, 10] {
+                let rules = there_by(model::find(&memory, numbers, wanted));
+                let mut key = Lent::new();
+                let by_port = library.find(&memory, &numbers, wanted, key.numbers());
+                report.check(rules == (by_port, key.0), || {
+                    format!(
+                        "{numbers:?}, wanted {wanted}: {rules:?}, port {by_port} {:?}",
+                        key.0
+                    )
+                });
+            }
+        }
+        memory[start as usize..end as usize].fill(0);
+    }
+    report
 }
 
 /// A small directory to work by hand on, in a file of 1.2: it begins at 281 with the keys below, has 40 bytes, and then
@@ -972,6 +1040,7 @@ pub fn compare_stand_ins() -> Report {
             && every_location(library, FEW).agrees()
             && every_key(library, FEW).agrees()
             && long(library, FEW).agrees()
+            && far(library).agrees()
     };
     report.check(agrees(None), || "the one without an error differs".into());
     for &error in ERRORS {
@@ -999,6 +1068,7 @@ pub fn compare_library(tally: &mut Tally, library: &impl Library) {
             _ => tally.add(report),
         }
     }
+    tally.add(far(library));
     tally.add(
         outcome
             .counted
