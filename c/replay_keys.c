@@ -29,11 +29,12 @@ enum {
 /* No file of the list is longer, and no directory has more numbers or bytes. */
 enum { MOST = 4096, MOST_NUMBERS = 32768, MOST_BYTES = 65536 };
 
-/* What lent numbers and bytes are before a call, how many bytes there are past a room, and how many keys are asked for by their number. */
-enum { BEFORE = 0xA5, SPARE = 2, ASKED = 7 };
+/* What lent numbers and bytes are before a call, and how many bytes there are past a room. */
+enum { BEFORE = 0xA5, SPARE = 2 };
 
-/* The bit that marks the records after the points. */
-enum { LATER = 4096 };
+/* The numbers of the keys that are asked for. */
+enum { ASKED = 8 };
+static const uint16_t asked[ASKED] = {0, 1, 2, 3, 4, 5, 6, 256};
 
 /* The numbers of a directory, before its changes. */
 enum { PLAIN = 24 };
@@ -59,13 +60,15 @@ static void make_directory(const uint64_t q[NUMBERS], uint16_t numbers[PLAIN]) {
     }
 }
 
-/* Gives the record whose head is here the user id, and a record id so much above 34734. */
-static void put_ids(const uint64_t q[NUMBERS], uint64_t at, uint64_t id) {
-    for (uint64_t k = 0; k < sizeof user; k++) {
-        put(file, q[SIZE], at + 2 + k, 1, (uint8_t)user[k]);
+/* Gives the record whose head is here the user id, and the record id that the k-th four bits say. */
+static void put_ids(const uint64_t q[NUMBERS], uint64_t at, int k) {
+    const uint64_t four = q[IDS] >> 4 * k & 15;
+    for (uint64_t i = 0; i < sizeof user; i++) {
+        put(file, q[SIZE], at + 2 + i, 1, (uint8_t)user[i]);
     }
+    put(file, q[SIZE], at + 2, 1, (uint8_t)user[0] ^ q[LAST] >> 8);
     put(file, q[SIZE], at + 17, 1, q[LAST]);
-    put(file, q[SIZE], at + 18, 2, 34734 + id);
+    put(file, q[SIZE], at + 18, 2, four == 14 ? 34735 ^ 0x100 : four == 15 ? 34735 ^ 0x8000 : 34734 + four);
 }
 
 /* Makes the file. */
@@ -77,20 +80,21 @@ static void make(const uint64_t q[NUMBERS]) {
     for (int k = 0; k < 3; k++) {
         at[k] = next;
         next += 54 + q[BYTES + k];
-        put_ids(q, at[k], q[IDS] >> 4 * k & 15);
+        put_ids(q, at[k], k);
     }
-    if ((q[IDS] & LATER) != 0 && q[MINOR] == 3 && q[WAVEFORM] > 0) {
-        put_ids(q, q[WAVEFORM], 1);
+    if (q[MINOR] == 3 && q[WAVEFORM] > 0) {
+        put_ids(q, q[WAVEFORM], 3);
     }
-    for (uint64_t k = 0; (q[IDS] & LATER) != 0 && q[MINOR] == 4 && k < q[EVLRS] && k < 9; k++) {
-        put_ids(q, q[EVLR_START] + 60 * k, 1);
+    for (uint64_t k = 0; q[MINOR] == 4 && k < q[EVLRS] && k < 9; k++) {
+        put_ids(q, q[EVLR_START] + 60 * k, 3);
     }
     for (int k = 0; k < 3; k++) {
         put(file, size, at[k] + 20, 2, q[BYTES + k]);
     }
     make_directory(q, numbers);
-    for (uint64_t k = 0; k < 2 * PLAIN && k < q[BYTES]; k++) {
-        put(file, size, at[0] + 54 + k, 1, k % 2 == 0 ? numbers[k / 2] : numbers[k / 2] >> 8);
+    const uint64_t which = q[IDS] >> 16;
+    for (uint64_t k = 0; k < 2 * PLAIN && k < q[BYTES + which]; k++) {
+        put(file, size, at[which] + 54 + k, 1, k % 2 == 0 ? numbers[k / 2] : numbers[k / 2] >> 8);
     }
 }
 
@@ -139,9 +143,9 @@ static void tell_keys(const uint64_t q[NUMBERS]) {
     if (q[HAND] < LAS_KEYS_NUMBERS) {
         keys[q[HAND]] = q[HAND_NUMBER];
     }
-    for (uint16_t k = 0; k < ASKED; k++) {
+    for (int k = 0; k < ASKED; k++) {
         lend(key, LAS_KEY_NUMBERS);
-        const bool there = las_keys_at(file, q[SIZE], keys, k, key);
+        const bool there = las_keys_at(file, q[SIZE], keys, asked[k], key);
         add_key(there, key);
     }
     lend(key, LAS_KEY_NUMBERS);
@@ -173,7 +177,8 @@ int main(void) {
             continue;
         }
         read = 0;
-        if (q[SIZE] > MOST || q[GIVEN] > MOST_NUMBERS || q[SPACE] > MOST_BYTES || q[CHANGES] >= PLAIN || q[CHANGES + 2] >= PLAIN) {
+        if (q[SIZE] > MOST || q[GIVEN] > MOST_NUMBERS || q[SPACE] > MOST_BYTES || q[IDS] >> 16 > 2 || q[CHANGES] >= PLAIN ||
+            q[CHANGES + 2] >= PLAIN) {
             return EXIT_FAILURE;
         }
         make(q);

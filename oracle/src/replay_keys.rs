@@ -3,7 +3,8 @@
 //!
 //! A line of questions has the 28 numbers of a `Question`. A line of answers has three rows, of the keys, of a key and of
 //! a directory written; and a sum over what the calls wrote or left, in their order: the keys' numbers; the key; of each
-//! of the first seven keys and of the one that is found whether it is there, and its numbers; the destination.
+//! of the first seven keys, of number 256 and of the one that is found whether it is there, and its numbers; the
+//! destination.
 
 use crate::{
     answer::Answer,
@@ -20,12 +21,13 @@ struct Question {
     /// Where the bytes without pattern begin.
     seed: u64,
     frame: Frame,
-    /// The record ids of the last three VLRs, four bits each, as much as they are above 34734; the lowest are the first's.
-    /// 4096 gives the directory's to every record after the points.
+    /// The record ids of the last three VLRs and of all records after the points, four bits each, the lowest for the
+    /// first: as much as they are above 34734, and 14 and 15 for the directory's with another bit. Above them is which of
+    /// the three VLRs has the directory below, the first being 0.
     ids: u64,
-    /// The last byte of their user id.
+    /// The last byte of their user id, and above it bits that are changed in the first.
     last: u64,
-    /// The bytes of their data: the directory below, doubles, and text. The other VLRs have none.
+    /// The bytes of the data of the three. The other VLRs have none.
     bytes: [u64; 3],
     /// Two numbers of the directory, the first being 0, and what they are instead.
     changes: [[u64; 2]; 2],
@@ -48,14 +50,21 @@ const PLAIN: [u16; 24] = [
     3_072, 0, 9, 32_632,
 ];
 
-/// What lent numbers and bytes are before a call, how many bytes there are past a room, and how many keys are asked for by
-/// their number.
+/// What lent numbers and bytes are before a call, and how many bytes there are past a room.
 const BEFORE: u64 = 0xa5;
 const SPARE: u64 = 2;
-const ASKED: u16 = 7;
 
-/// The bit that marks the records after the points.
-const LATER: u64 = 4096;
+/// The numbers of the keys that are asked for.
+const ASKED: [u16; 8] = [0, 1, 2, 3, 4, 5, 6, 256];
+
+/// A record id, by its four bits.
+fn record_id(four: u64) -> u64 {
+    match four {
+        14 => 34_735 ^ 0x100,
+        15 => 34_735 ^ 0x8000,
+        _ => 34_734 + four,
+    }
+}
 
 impl Question {
     /// The numbers of the directory.
@@ -88,28 +97,27 @@ impl Question {
     fn make(&self) -> Vec<u8> {
         let frame = &self.frame;
         let mut file = frame.make(self.seed);
-        let mut ids = |at: u64, id: u64| {
-            for k in 0..16 {
-                let letter = USER.get(k).copied().map_or(self.last, u64::from);
-                put(&mut file, at + 2 + k as u64, 1, letter);
+        let mut ids = |at: u64, k: u64| {
+            for (k, &letter) in (0..).zip(USER) {
+                put(&mut file, at + 2 + k, 1, letter.into());
             }
-            put(&mut file, at + 18, 2, 34_734 + id);
+            put(&mut file, at + 2, 1, u64::from(USER[0]) ^ self.last >> 8);
+            put(&mut file, at + 17, 1, self.last);
+            put(&mut file, at + 18, 2, record_id(self.ids >> (4 * k) & 15));
         };
         let heads = self.heads();
         for (k, [at, _]) in (0..).zip(heads) {
-            ids(at, self.ids >> (4 * k) & 15);
+            ids(at, k);
         }
-        if self.ids & LATER != 0 {
-            match frame.minor {
-                3 if frame.waveform > 0 => ids(frame.waveform, 1),
-                4 => (0..frame.evlrs.min(9)).for_each(|k| ids(frame.evlr_start + 60 * k, 1)),
-                _ => {}
-            }
+        match frame.minor {
+            3 if frame.waveform > 0 => ids(frame.waveform, 3),
+            4 => (0..frame.evlrs.min(9)).for_each(|k| ids(frame.evlr_start + 60 * k, 3)),
+            _ => {}
         }
         for [at, bytes] in heads {
             put(&mut file, at + 20, 2, bytes);
         }
-        let [[at, bytes], ..] = heads;
+        let [at, bytes] = heads[(self.ids >> 16) as usize];
         for (k, number) in (0..).zip(self.directory()) {
             for (place, byte) in (2 * k..).zip(number.to_le_bytes()) {
                 if place < bytes {
@@ -190,7 +198,7 @@ impl replay_frame::Question for Question {
         if let Some(number) = keys.get_mut(self.hand[0] as usize) {
             *number = self.hand[1];
         }
-        for k in 0..ASKED {
+        for k in ASKED {
             line.there(model::at(&file, keys, k));
         }
         line.there(model::find(&file, keys, wanted));
@@ -245,7 +253,7 @@ fn files() -> Vec<Question> {
     (evlrs.evlr_start, evlrs.evlrs) = (evlrs.end() + 2, 2);
     evlrs.size = evlrs.evlr_start + 121;
     for file in &mut files[4..] {
-        file.ids |= LATER;
+        file.ids |= 0x1000;
     }
     files
 }
@@ -275,10 +283,14 @@ pub fn compare(tally: &mut Tally, folder: &Path, write: bool) -> io::Result<()> 
     ] {
         list.ask(Question { wanted, ..file });
     }
+    for &file in &files[3..] {
+        other_vlrs(&mut list, file);
+    }
     for &file in &files[..2] {
         shorts(&mut list, file);
         numbers(&mut list, file);
     }
+    pointed(&mut list, file);
     together(&mut list, file);
     hands(&mut list, files[1]);
     directories(&mut list, file);
@@ -290,12 +302,62 @@ pub fn compare(tally: &mut Tally, folder: &Path, write: bool) -> io::Result<()> 
 
 /// Which VLR counts: none, the first of two, one after the points, and ids that are nearly those.
 fn vlrs(list: &mut List, file: Question) {
-    let later = file.ids & LATER;
+    let later = file.ids & 0xf000;
     for ids in [0x320, 0x322, 0x311, 0x301, 0x331, 0x021, 0x221, 0x111] {
         let ids = ids | later;
         list.ask(Question { ids, ..file });
     }
     list.ask(Question { last: 1, ..file });
+}
+
+/// Ids that are nearly those in other ways, doubles or text after the points only, and the directory behind them.
+fn other_vlrs(list: &mut List, file: Question) {
+    let last = 0x2000;
+    list.ask(Question { last, ..file });
+    for ids in [0x32e, 0x32f, 0x2301, 0x3021] {
+        list.ask(Question { ids, ..file });
+    }
+    list.ask(Question {
+        ids: 0x2_0132,
+        bytes: [24, 10, 48],
+        ..file
+    });
+}
+
+/// Records that nothing points at, and keys that point at nothing of a record: other locations, no count, no data.
+fn pointed(list: &mut List, file: Question) {
+    let numbers = [[13, 0], [17, 0]];
+    for (ids, bytes, changes) in [
+        (0x301, file.bytes, numbers),
+        (0x301, file.bytes, [[13, 0], [0, 1]]),
+        (0x331, file.bytes, numbers),
+        (0x221, file.bytes, [[9, 0], [0, 1]]),
+        (0x221, file.bytes, [[9, 0], [14, 3]]),
+        (0x321, [48, 24, 0], [[10, 0], [11, 0]]),
+        (0x321, [48, 0, 10], numbers),
+    ] {
+        list.ask(Question {
+            ids,
+            bytes,
+            changes,
+            ..file
+        });
+    }
+    for ids in [0x301, 0x021] {
+        let wanted = 1_024;
+        list.ask(Question {
+            ids,
+            wanted,
+            ..file
+        });
+    }
+    for (wanted, change) in [(9, [19, 4]), (1_024 + 32_768, [0, 1]), (1_024, [1, 0])] {
+        list.ask(Question {
+            wanted,
+            changes: [change, [0, 1]],
+            ..file
+        });
+    }
 }
 
 /// A directory that is short by a byte or more, as long as its keys want, and longer; and another number of keys.
@@ -331,6 +393,8 @@ fn numbers(list: &mut List, file: Question) {
     for at in [5, 9, 21] {
         change(at, &[0, 1, 34_735, 34_736, 34_737, 34_738], none);
     }
+    change(17, &[7, 176, 256, 1_968, 32_768], none);
+    change(7, &[65_535], none);
     // the text has 10 bytes, the doubles are 3
     change(10, &[0, 6, 8, 65_535], none);
     change(11, &[0, 4, 65_535], none);
@@ -382,11 +446,18 @@ fn hands(list: &mut List, file: Question) {
     for hand in [
         [0, 6],
         [0, 65_536 + 4],
+        [0, 256],
         [2, 30],
         [3, size - 24],
         [3, size - 23],
     ] {
         list.ask(Question { hand, ..file });
+        let wanted = 0;
+        list.ask(Question {
+            hand,
+            wanted,
+            ..file
+        });
     }
 }
 
@@ -410,6 +481,12 @@ fn directories(list: &mut List, file: Question) {
             ..file
         });
     }
+    // A rest whose first number does not rise.
+    list.ask(Question {
+        changes: [[8, 3], [0, 1]],
+        given: 5,
+        ..file
+    });
     let most = 4 * MOST as u64;
     for (given, space) in [
         (most, 65_528),
