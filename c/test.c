@@ -96,6 +96,7 @@ int main(int argc, char **argv) {
     test_headers();
     test_files();
     test_columns();
+    test_attributes();
     test_keys();
     test_append();
     test_reclassify();

@@ -2,6 +2,7 @@
 
 use super::{
     args::Words,
+    extra::{self, Extras},
     grid::Grid,
     input::{Files, Name},
     json::{self, Object},

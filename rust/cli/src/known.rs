@@ -211,31 +211,6 @@ fn described(data: &[u8]) -> String {
     }
 }
 
-/// Extra bytes: their names and kinds.
-fn extra_bytes(vlr: &Vlr<'_>) -> String {
-    let fields: Vec<String> = extra::described_by(vlr.data)
-        .iter()
-        .map(|field| {
-            let mut words = format!("{} ({}", field.name, field.kind.words());
-            if let Some(scale) = field.scale {
-                words.push_str(&format!(", steps of {}", float(scale)));
-            }
-            if let Some(offset) = field.offset {
-                words.push_str(&format!(", from {}", float(offset)));
-            }
-            words.push(')');
-            if !field.about.is_empty() {
-                words.push_str(&format!(" \"{}\"", field.about));
-            }
-            words
-        })
-        .collect();
-    match fields.is_empty() {
-        true => String::from("what the extra bytes are"),
-        false => format!("extra bytes: {}", fields.join(", ")),
-    }
-}
-
 #[cfg(test)]
 mod tests {
     use super::*;

@@ -9,6 +9,7 @@ use std::{
     fs,
     path::Path,
     process::{Command, Output, Stdio},
+    sync::atomic::{AtomicUsize, Ordering},
 };
 
 fn tool() -> Command {
@@ -41,8 +42,10 @@ fn of(path: &Path) -> (String, Option<i32>) {
 
 /// What is said of bytes.
 fn line(bytes: &[u8]) -> (String, Option<i32>) {
-    let name: Vec<String> = bytes.iter().map(|byte| byte.to_string()).collect();
-    let folder = Folder::new(&format!("grid-{}-{}", bytes.len(), &name.concat()[..9]));
+    // Tests run side by side: each file has a folder of its own.
+    static FILES: AtomicUsize = AtomicUsize::new(0);
+    let number = FILES.fetch_add(1, Ordering::Relaxed);
+    let folder = Folder::new(&format!("grid-{number}"));
     of(&folder.put("a.las", bytes))
 }
 
