@@ -1,0 +1,6 @@
+-- definitions
+pub mod Count
+pub mod File
+-- laws
+pub mod Laws
+pub mod Read
