@@ -1,0 +1,4 @@
+-- definitions
+pub mod Sheet
+-- laws
+pub mod Laws
