@@ -124,17 +124,22 @@ fn head_numbers(files: u64, points: u64, bounds: Bounds) -> [u64; 9]
 {
     match bounds {
         Bounds::None => [files, points, 0, 0, 0, 0, 0, 0, 0],
-        Bounds::Are(e) => [
-            files,
-            points,
-            1,
-            bits(e.x.min),
-            bits(e.x.max),
-            bits(e.y.min),
-            bits(e.y.max),
-            bits(e.z.min),
-            bits(e.z.max),
-        ],
+        Bounds::Are(e) => {
+            let x = e.x;
+            let y = e.y;
+            let z = e.z;
+            [
+                files,
+                points,
+                1,
+                bits(x.min),
+                bits(x.max),
+                bits(y.min),
+                bits(y.max),
+                bits(z.min),
+                bits(z.max),
+            ]
+        }
     }
 }
 
