@@ -1,14 +1,13 @@
 -- Laws of totals: of a list of them, one after the other.
-use Prim.Native.Nat.{ℕ, zero, suc, _+_, _^_, _≤_, _<_}
-use mathlib.Core.Path.{_≡_, refl, ap, sym, _∙_}
-use mathlib.Core.Bool.{Bool, true, false, _&&_, and-eq-true-iff}
+use Prim.Native.Nat.{ℕ, _+_, _^_, _≤_, _<_}
+use mathlib.Core.Path.{_≡_, ap}
+use mathlib.Core.Bool.{true, false, _&&_, and-eq-true-iff}
 use mathlib.Core.List.{List, [], _∷_, _++_}
 use native.Mathlib.Numerals.{add-one}
 use native.Mathlib.Omega.{arith}
 use borrow.Author.Tests.{ltb-true, ltb-false, lt-ltb, le-ltb}
-use lib.Dec.{ltb}
-use lib.ListN.{length, take, drop, set, getD, length-set}
-use lib.Seq.{drop-cons, take-suc-set, drop-set-lt, append-snoc, take-length, drop-length, take-all}
+use lib.ListN.{length, take, drop, set, getD}
+use lib.Seq.{drop-cons, take-suc-set, drop-set-lt, append-snoc}
 use lib.ListN.{drop-of-length-le}
 use Rattle.refusal.specs.declared.Refusal.the-variants.{TotalTooLarge}
 use Rattle.sheet_count.specs.declared.Tally.{Tally}

@@ -11,7 +11,6 @@ use Rattle.walker.specs.declared.Start.the-variants as start
 use Rattle.sheet_count.specs.declared.Bounds.{Bounds}
 use Rattle.sheet_count.specs.declared.Bounds.the-variants.{None, Are}
 use Rattle.sheet_count.specs.declared.Tally.{Tally}
-use Rattle.sheet_count.specs.declared.Counted.{Counted}
 use Rattle.sheet_count.specs.Count.{bothExtents}
 use Rattle.sheet_count.specs.File.{countedOf}
 use Rattle.sheet.specs.declared.Sheet.{Sheet}

@@ -1,7 +1,7 @@
 -- The bytes of a record that are looked at say what its point says.
 use Prim.Native.Nat.{ℕ, _+_, _*_, _≤_}
 use mathlib.Core.Path.{_≡_, refl, ap, sym, _∙_}
-use mathlib.Core.Bool.{Bool, true, false}
+use mathlib.Core.Bool.{Bool}
 use mathlib.Core.List.{List}
 use native.Mathlib.Omega.{arith}
 use lib.ListN.{length, take, drop}
@@ -22,8 +22,8 @@ use Rattle.walker.specs.declared.Place.{Place}
 use Rattle.walker.specs.Begin.{refusedPlace, beginOf}
 use Rattle.walker.specs.Accepted.{begins}
 use Rattle.column.specs.Stretch.{ends}
-use Rattle.sheet_count.specs.Count.{only, countsOf, boundsOf, classIn, returnIn, extentIn, partAt, talliedAt}
-use Rattle.sheet_count.specs.File.{classAt, returnAt, extentAt, tallyOf}
+use Rattle.sheet_count.specs.Count.{only, countsOf, boundsOf, extentIn, partAt, talliedAt}
+use Rattle.sheet_count.specs.File.{extentAt, tallyOf}
 
 -- no record is shorter
 pub wide : (f : Format) → 20 ≤ recordBytes f

@@ -11,7 +11,7 @@ use lib.Dec.{ltb}
 use lib.IntN.{ℤ}
 use lib.ListN.{getD, take, drop}
 use denote.Ref.{RefT, now}
-use Rattle.le.specs.Le.{num, Bytes}
+use Rattle.le.specs.Le.{Bytes}
 use Rattle.le.specs.Laws.{num-lt, bytes-take, bytes-drop}
 use Rattle.format.specs.declared.Format.{Format}
 use Rattle.format.specs.Fields.{recordBytes}
@@ -109,7 +109,7 @@ abbrev pub Bounded : Bounds → ℕ → (Axis → ℤ → Type 0) → Type 0
 Bounded None n P = (n ≡ 0) × ((a : Axis) (z : ℤ) → P a z → ⊥)
 Bounded (Are e) n P = (0 < n) × ((a : Axis) → Spans (P a) (on a e))
 
-on-both : (a : Axis) (e g : Extent) → on a (bothExtents e g) ≡ both (on a e) (on a g)
+pub on-both : (a : Axis) (e g : Extent) → on a (bothExtents e g) ≡ both (on a e) (on a g)
 unfolding bothExtents
 on-both X e g = refl
 on-both Y e g = refl

@@ -4,9 +4,9 @@ use mathlib.Core.Path.{_≡_, refl, ap, sym, _∙_}
 use mathlib.Core.Bool.{Bool, true, false, cond}
 use mathlib.Core.List.{List, [], _∷_}
 use native.Mathlib.Omega.{arith}
-use borrow.Author.Tests.{eqb-true, eqb-false, eq-eqb, ne-eqb}
+use borrow.Author.Tests.{eqb-true, eqb-false}
 use lib.Dec.{eqb}
-use lib.ListN.{length, getD, set, replicate, getD-replicate}
+use lib.ListN.{length, getD, replicate, getD-replicate}
 use Rattle.sheet_count.specs.Count.{oneMore, countsOf}
 use Rattle.sheet_count.specs.Laws.{length-counts, at-place, elsewhere}
 
@@ -32,7 +32,7 @@ each-counted size rule (suc n) k h = go (eqb (rule n) k) refl (each-counted size
         rw same (at-place (countsOf size rule n) k inside ∙ ap (λ (m : ℕ). m + 1) before)
     go false e before = elsewhere (countsOf size rule n) (rule n) k (λ same. eqb-false (rule n) k e (sym same)) ∙ omega arith
 
-total-none : (size : ℕ) → total (replicate size 0) ≡ 0
+pub total-none : (size : ℕ) → total (replicate size 0) ≡ 0
 unfolding total
 total-none zero = refl
 total-none (suc size) = omega (arith, total-none size)

@@ -1,4 +1,3 @@
-use mathlib.Core.Path.{_≡_}
 use borrow.Author.Needs.{needs}
 use lib.ListN.{getD}
 use Rattle.capi_sheet.specs.Numbers.{sheetFrom}

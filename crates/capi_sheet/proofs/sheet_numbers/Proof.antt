@@ -3,9 +3,9 @@ use mathlib.Core.Path.{_≡_, refl, ap, sym, _∙_}
 use mathlib.Core.List.{List, [], _++_, append-assoc}
 use native.Mathlib.Omega.{arith}
 use borrow.Author.Needs.{needs}
-use lib.ListN.{length, take, length-replicate}
+use lib.ListN.{length, take}
 use lib.Seq.{take-all}
-use Rattle.capi_sheet.specs.Numbers.{headNumbers, sheetNumbers}
+use Rattle.capi_sheet.specs.Numbers.{sheetNumbers}
 use Rattle.capi_sheet.proofs.Laid.{behind}
 use Rattle.capi_sheet.proofs.sheet_numbers.Statement.{statement}
 use Rattle.capi_sheet.proofs.sheet_numbers.Tie as tie

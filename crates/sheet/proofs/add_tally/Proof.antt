@@ -1,10 +1,10 @@
 use mathlib.Core.Path.{_≡_, ap, sym, _∙_}
-use mathlib.Core.Bool.{true, false}
+use mathlib.Core.Bool.{true}
 use borrow.Author.Needs.{needs}
 use borrow.Author.Tests.{not-true, not-false}
 use Rattle.sheet.specs.declared.Sheet.{Sheet}
 use Rattle.sheet.specs.declared.Answer.the-variants as answer
-use Rattle.sheet.specs.Sheet.{totalsFit, addedTo}
+use Rattle.sheet.specs.Sheet.{totalsFit}
 use Rattle.sheet.specs.Laws.{too-large, all-added}
 use Rattle.sheet.proofs.add_tally.Statement.{statement}
 use Rattle.sheet.proofs.add_tally.Tie as tie

@@ -1,4 +1,4 @@
-use mathlib.Core.Path.{_≡_, ap, sym, _∙_}
+use mathlib.Core.Path.{ap, sym, _∙_}
 use borrow.Author.Needs.{needs}
 use Rattle.sheet_count.specs.declared.Bounds.the-variants.{Are}
 use Rattle.sheet.specs.Sheet.{bothBounds}
