@@ -71,7 +71,7 @@
 //! A whole file of LAS 1.2 becomes one of LAS 1.4, for clients who move to newer software, by [`File::to_new`], and comes back by
 //! [`File::to_old`].
 //!
-//! Which grid the points are in is said by coordinate keys: [`File::keys`], and the module [`keys`].
+//! Many files come to one [`Sheet`]: their points by class and by return number, and the smallest and largest of their stored numbers.
 //!
 //! A scanner makes a file of LAS 1.2 by [`NewFile`], opens it as a [`Writer`], and appends sweep after sweep: an [`Append`] can be
 //! cut short by a brownout anywhere, and repeated without harm. The class of a single point of any file is corrected in place by
@@ -111,6 +111,7 @@ mod new;
 mod point;
 mod reclassify;
 mod refusal;
+mod sheet;
 mod sys;
 mod text;
 mod vlr;
@@ -132,6 +133,7 @@ pub use new::NewFile;
 pub use point::{Color, Point, Waveform};
 pub use reclassify::{Change, Reclassify};
 pub use refusal::{Kind, Refusal};
+pub use sheet::{Sheet, StoredBounds};
 pub use text::text;
 pub use vlr::Vlr;
 pub use writer::Writer;
