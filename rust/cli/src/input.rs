@@ -261,6 +261,12 @@ impl Files {
         self.files.iter().map(|(name, _)| name.as_os_str())
     }
 
+    /// What they are called, each with what is wrong with it if it is a folder of which there is nothing to be had.
+    pub(crate) fn opened(&self) -> impl Iterator<Item = (&OsStr, Option<&str>)> {
+        let files = self.files.iter();
+        files.map(|(name, trouble)| (name.as_os_str(), trouble.as_deref()))
+    }
+
     /// Shows each file's name to `then`. The worst status counts.
     pub(crate) fn each_name(
         &self,

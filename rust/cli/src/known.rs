@@ -70,87 +70,36 @@ pub(crate) fn date(year: u16, day_of_year: u16) -> Option<String> {
     None
 }
 
-/// The name that GeoTIFF gives a coordinate key.
-pub(crate) fn key(id: u16) -> Option<&'static str> {
-    Some(match id {
-        1024 => "GTModelType",
-        1025 => "GTRasterType",
-        1026 => "GTCitation",
-        2048 => "GeographicType",
-        2049 => "GeogCitation",
-        2050 => "GeogGeodeticDatum",
-        2051 => "GeogPrimeMeridian",
-        2052 => "GeogLinearUnits",
-        2053 => "GeogLinearUnitSize",
-        2054 => "GeogAngularUnits",
-        2055 => "GeogAngularUnitSize",
-        2056 => "GeogEllipsoid",
-        2057 => "GeogSemiMajorAxis",
-        2058 => "GeogSemiMinorAxis",
-        2059 => "GeogInvFlattening",
-        2060 => "GeogAzimuthUnits",
-        2061 => "GeogPrimeMeridianLong",
-        2062 => "GeogTOWGS84",
-        3072 => "ProjectedCSType",
-        3073 => "PCSCitation",
-        3074 => "Projection",
-        3075 => "ProjCoordTrans",
-        3076 => "ProjLinearUnits",
-        3077 => "ProjLinearUnitSize",
-        3078 => "ProjStdParallel1",
-        3079 => "ProjStdParallel2",
-        3080 => "ProjNatOriginLong",
-        3081 => "ProjNatOriginLat",
-        3082 => "ProjFalseEasting",
-        3083 => "ProjFalseNorthing",
-        3084 => "ProjFalseOriginLong",
-        3085 => "ProjFalseOriginLat",
-        3086 => "ProjFalseOriginEasting",
-        3087 => "ProjFalseOriginNorthing",
-        3088 => "ProjCenterLong",
-        3089 => "ProjCenterLat",
-        3090 => "ProjCenterEasting",
-        3091 => "ProjCenterNorthing",
-        3092 => "ProjScaleAtNatOrigin",
-        3093 => "ProjScaleAtCenter",
-        3094 => "ProjAzimuthAngle",
-        3095 => "ProjStraightVertPoleLong",
-        3096 => "ProjRectifiedGridAngle",
-        4096 => "VerticalCSType",
-        4097 => "VerticalCitation",
-        4098 => "VerticalDatum",
-        4099 => "VerticalUnits",
-        _ => return None,
-    })
-}
-
-/// The unit, of lengths or of angles, that a code of EPSG stands for.
-pub(crate) fn unit(code: u16) -> Option<&'static str> {
-    Some(match code {
-        9001 => "metres",
-        9002 => "feet",
-        9003 => "US survey feet",
-        9004 => "modified American feet",
-        9005 => "Clarke's feet",
-        9006 => "Indian feet",
-        9007 => "links",
-        9008 => "Benoit links",
-        9009 => "Sears links",
-        9010 => "Benoit chains",
-        9011 => "Sears chains",
-        9012 => "Sears yards",
-        9013 => "Indian yards",
-        9014 => "fathoms",
-        9015 | 9030 => "nautical miles",
-        9036 => "kilometres",
-        9101 => "radians",
-        9102 => "degrees",
-        9103 => "arc-minutes",
-        9104 => "arc-seconds",
-        9105 => "grads",
-        9106 => "gons",
-        _ => return None,
-    })
+/// What the standard calls a class, in points of formats 0 to 5, which are old, or of 6 to 10.
+pub(crate) fn class(class: u8, old: bool) -> &'static str {
+    match (class, old) {
+        (0, _) => "never classified",
+        (1, _) => "unclassified",
+        (2, _) => "ground",
+        (3, _) => "low vegetation",
+        (4, _) => "medium vegetation",
+        (5, _) => "high vegetation",
+        (6, _) => "building",
+        (7, _) => "low noise",
+        (8, true) => "model key point",
+        (9, _) => "water",
+        (10, false) => "rail",
+        (11, false) => "road surface",
+        (12, true) => "overlap",
+        (13, false) => "wire, guard",
+        (14, false) => "wire, conductor",
+        (15, false) => "transmission tower",
+        (16, false) => "wire connector",
+        (17, false) => "bridge deck",
+        (18, false) => "high noise",
+        (19, false) => "overhead structure",
+        (20, false) => "ignored ground",
+        (21, false) => "snow",
+        (22, false) => "temporal exclusion",
+        (64..=255, false) => "defined by the user",
+        // Old points have no class above 31.
+        _ => "reserved",
+    }
 }
 
 /// What a record is, where the standard or common use says so.
@@ -224,6 +173,28 @@ mod tests {
         assert_eq!(date(2024, 366), Some("2024-12-31".into()));
         assert_eq!(date(2026, 366), None);
         assert_eq!((date(0, 1), date(2026, 0)), (None, None));
+    }
+
+    #[test]
+    fn classes() {
+        assert_eq!((class(2, true), class(2, false)), ("ground", "ground"));
+        assert_eq!(
+            (class(8, true), class(8, false)),
+            ("model key point", "reserved")
+        );
+        assert_eq!(
+            (class(11, true), class(11, false)),
+            ("reserved", "road surface")
+        );
+        assert_eq!((class(12, true), class(12, false)), ("overlap", "reserved"));
+        assert_eq!(
+            (class(23, false), class(63, false)),
+            ("reserved", "reserved")
+        );
+        assert_eq!(
+            (class(31, true), class(64, false)),
+            ("reserved", "defined by the user")
+        );
     }
 
     #[test]
