@@ -70,6 +70,9 @@ pub(crate) fn date(year: u16, day_of_year: u16) -> Option<String> {
     None
 }
 
+/// What the standard calls classes that it has not named yet.
+pub(crate) const RESERVED: &str = "reserved";
+
 /// What the standard calls a class, in points of formats 0 to 5, which are old, or of 6 to 10.
 pub(crate) fn class(class: u8, old: bool) -> &'static str {
     match (class, old) {
@@ -98,7 +101,7 @@ pub(crate) fn class(class: u8, old: bool) -> &'static str {
         (22, false) => "temporal exclusion",
         (64..=255, false) => "defined by the user",
         // Old points have no class above 31.
-        _ => "reserved",
+        _ => RESERVED,
     }
 }
 
@@ -177,6 +180,10 @@ mod tests {
 
     #[test]
     fn classes() {
+        for number in 0..=255 {
+            let names = (class(number, true), class(number, false));
+            assert!(names.0 == names.1 || names.0 == RESERVED || names.1 == RESERVED);
+        }
         assert_eq!((class(2, true), class(2, false)), ("ground", "ground"));
         assert_eq!(
             (class(8, true), class(8, false)),

@@ -9,23 +9,23 @@ use super::{
 };
 
 /// The room of the picture, in millimetres.
-const WIDE: f64 = 150.0;
-const HIGH: f64 = 92.0;
+const WIDE: f64 = 140.0;
+const HIGH: f64 = 80.0;
 
 const STYLE: &str = "\
 @page { size: A4; margin: 12mm }
 * { box-sizing: border-box }
 body { max-width: 186mm; margin: 8mm auto; padding: 0 2mm; font: 10.5pt/1.35 'DejaVu Sans', 'Liberation Sans', Arial, sans-serif; color: #1c1c1c; background: #fff }
-h1 { font-size: 20pt; margin: 0 } h2 { font-size: 11.5pt; margin: 5mm 0 1.5mm; border-bottom: 0.3mm solid #888; padding-bottom: 0.6mm }
+h1 { font-size: 20pt; margin: 0 } h2 { font-size: 11.5pt; margin: 3.5mm 0 1mm; border-bottom: 0.3mm solid #888; padding-bottom: 0.6mm }
 .totals { display: flex; gap: 10mm; margin: 2mm 0 0 } .totals div { font-size: 9pt; color: #444 } .totals b { display: block; font-size: 17pt; color: #1c1c1c }
 .bad b { color: #9c1c00 }
 figure { margin: 4mm 0 0; display: flex; gap: 5mm; align-items: flex-start } figure img { border: 0.3mm solid #888; image-rendering: pixelated; display: block }
 .legend { font-size: 8.5pt; color: #333 } .legend svg, .scale { display: block } .note { font-size: 8.5pt; color: #444; margin: 1mm 0 0 }
 .two { display: grid; grid-template-columns: 105mm 1fr; gap: 0 7mm }
-table { border-collapse: collapse; width: 100%; font-size: 9.5pt } th { text-align: left; font-weight: normal; color: #555; font-size: 8.5pt }
-td, th { padding: 0.35mm 2mm 0.35mm 0; vertical-align: baseline } .n { text-align: right; white-space: nowrap; font-variant-numeric: tabular-nums }
-td.bar { width: 30%; padding-right: 3mm } td.bar svg { display: block; width: 100%; height: 2.6mm }
-tr.sum td { border-top: 0.2mm solid #888; font-weight: bold } td.name { overflow-wrap: anywhere } tr { break-inside: avoid }
+table { border-collapse: collapse; width: 100%; font-size: 9pt } th { text-align: left; font-weight: normal; color: #555; font-size: 8.5pt }
+td, th { padding: 0.25mm 2mm 0.25mm 0; vertical-align: baseline } .n { text-align: right; white-space: nowrap; font-variant-numeric: tabular-nums }
+td.bar { width: 99%; min-width: 18mm; padding-right: 3mm } td.bar svg { display: block; width: 100%; height: 2.6mm }
+tr.sum td { border-top: 0.2mm solid #888; font-weight: bold } td.class { white-space: nowrap } td.name { overflow-wrap: anywhere; min-width: 50mm } tr { break-inside: avoid }
 h2 { break-after: avoid } section, figure { break-inside: avoid } section.long { break-inside: auto }
 @media print { body { margin: 0; padding: 0; max-width: none } }
 ";
@@ -33,7 +33,7 @@ h2 { break-after: avoid } section, figure { break-inside: avoid } section.long {
 /// The page.
 pub(crate) fn of(site: &Site, picture: Option<&Picture>) -> String {
     let mut page = String::from(
-        "<!DOCTYPE html>\n<html lang=\"en\">\n<head>\n<meta charset=\"utf-8\">\n<title>Site sheet</title>\n<style>\n",
+        "<!DOCTYPE html>\n<html lang=\"en\">\n<head>\n<meta charset=\"utf-8\">\n<meta name=\"viewport\" content=\"width=820\">\n<title>Site sheet</title>\n<style>\n",
     );
     page.push_str(STYLE);
     page.push_str("</style>\n</head>\n<body>\n<h1>Site sheet</h1>\n");
@@ -116,9 +116,11 @@ fn figure(site: &Site, picture: &Picture) -> String {
         grouped(picture.height.into())
     );
     if picture.cell > 0.0 {
-        note.push_str(&format!(", {} wide,", rounded(picture.cell, picture.cell)));
+        note.push_str(&format!(", {} wide,", length(picture.cell)));
     }
-    note.push_str(" has the colour of its highest point; white cells have none.");
+    note.push_str(
+        " has the colour of its highest point; a single one without points has that of the cells around it, and white ones have none.",
+    );
     if picture.left_out > 0 {
         note.push_str(&format!(
             " {} could not be drawn.",
@@ -138,17 +140,17 @@ fn scale_bar(wide: f64, unit: f64) -> String {
         .find(|n| n * power <= most)
         .unwrap_or(1.0)
         * power;
-    let length = round * unit;
-    if !length.is_normal() {
+    let drawn = round * unit;
+    if !drawn.is_normal() {
         return String::new();
     }
-    let (end, all) = (length + 0.5, length + 30.0);
+    let (end, all) = (drawn + 0.5, drawn + 30.0);
     format!(
         "<svg class=\"scale\" width=\"{all:.2}mm\" height=\"6mm\" viewBox=\"0 0 {all:.2} 6\" role=\"img\" aria-label=\"scale\">\
          <path d=\"M0.5 1.5V4.5M0.5 3H{end:.2}M{end:.2} 1.5V4.5\" stroke=\"#1c1c1c\" stroke-width=\"0.4\" fill=\"none\"/>\
          <text x=\"{:.2}\" y=\"4\" font-size=\"3.2\">{}</text></svg>\n",
         end + 1.5,
-        rounded(round, round)
+        length(round)
     )
 }
 
@@ -187,7 +189,7 @@ fn legend(picture: &Picture) -> String {
         ));
     }
     format!(
-        "<div class=\"legend\">height (z)<svg width=\"34mm\" height=\"48mm\" viewBox=\"0 0 34 48\" role=\"img\" aria-label=\"heights\">\
+        "<div class=\"legend\">height (z)<svg width=\"41mm\" height=\"48mm\" viewBox=\"0 0 41 48\" role=\"img\" aria-label=\"heights\">\
          <defs><linearGradient id=\"z\" x1=\"0\" y1=\"1\" x2=\"0\" y2=\"0\">{}</linearGradient></defs>\
          <rect x=\"0.2\" y=\"3\" width=\"6\" height=\"42\" fill=\"url(#z)\" stroke=\"#888\" stroke-width=\"0.2\"/>{labels}</svg></div>",
         stops.concat()
@@ -200,7 +202,12 @@ fn rounded(number: f64, range: f64) -> String {
         size if size.is_finite() => (2.0 - size).clamp(0.0, 9.0) as usize,
         _ => 2,
     };
-    let text = format!("{number:.places$}");
+    format!("{number:.places$}")
+}
+
+/// The same of a length, without zeros at its end.
+fn length(number: f64) -> String {
+    let text = rounded(number, number);
     match text.contains('.') {
         true => text.trim_end_matches('0').trim_end_matches('.').to_string(),
         false => text,
@@ -233,7 +240,10 @@ fn classes(site: &Site) -> String {
     let most = site.sheet.classes().iter().copied().max().unwrap_or(0);
     let mut text = String::from("<section><h2>Points by class</h2><table>\n");
     for (class, name, points) in site.classes() {
-        let name = format!("<td class=\"n\">{class}</td><td>{}</td>", escaped(&name));
+        let name = format!(
+            "<td class=\"n\">{class}</td><td class=\"class\">{}</td>",
+            escaped(name)
+        );
         text.push_str(&row(&name, points, most, all));
     }
     text + &sum(3, all)
@@ -356,20 +366,19 @@ mod tests {
     fn numbers_of_a_legend() {
         let shown = [
             (112.34567, 7.4),
+            (112.3, 7.4),
             (112.34567, 742.0),
-            (0.5, 0.5),
-            (20.0, 20.0),
             (-3.0, 0.0),
         ];
-        assert_eq!(
-            shown.map(|(number, range)| rounded(number, range)),
-            ["112.35", "112", "0.5", "20", "-3"]
-        );
+        let heights = shown.map(|(number, range)| rounded(number, range));
+        assert_eq!(heights, ["112.35", "112.30", "112", "-3.00"]);
+        let lengths = [0.5, 20.0, 0.767, 1_234.56, 0.1].map(length);
+        assert_eq!(lengths, ["0.5", "20", "0.767", "1235", "0.1"]);
     }
 
     #[test]
     fn a_scale_of_a_round_length() {
-        // A unit is 4 mm, so that a third of 150 mm are 12.5 units.
+        // A unit is 4 mm, so that a third of the picture's 150 mm are 12.5 units.
         let bar = scale_bar(150.0, 4.0);
         assert!(
             bar.contains(">10</text>") && bar.contains("H40.50"),

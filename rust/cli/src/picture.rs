@@ -17,6 +17,9 @@ const FILLED: f64 = 2.0;
 /// How many points are read at a time.
 const STRETCH: usize = 1 << 16;
 
+/// How many of the eight cells around one without points have to have some for it to be filled.
+const AROUND: u32 = 6;
+
 /// The part of the cells, at either end, whose heights share a colour: a bird or a hole leaves the colours to the site.
 const OUTLIERS: f64 = 0.01;
 
@@ -101,17 +104,15 @@ impl Raster {
         let long = width.max(height);
         // A line has cells along its length alone.
         let filled = (width * height / cells).sqrt().max(long / cells);
-        let cell = filled.max(long / SIDE);
-        let (cell, long_enough) = (cell, cell.is_normal());
-        let side = |length: f64| match long_enough {
-            true => (length / cell).ceil().clamp(1.0, SIDE) as usize,
-            false => 1,
-        };
+        // One point, or points at the ends of what numbers there are, have one cell without a side.
+        let cell = Some(filled.max(long / SIDE)).filter(|cell| cell.is_normal());
+        let side =
+            |length: f64| cell.map_or(1.0, |cell| (length / cell).ceil().clamp(1.0, SIDE)) as usize;
         let (width, height) = (side(width), side(height));
         Raster {
             width,
             height,
-            cell: if long_enough { cell } else { 0.0 },
+            cell: cell.unwrap_or(0.0),
             area,
             heights: vec![f64::NEG_INFINITY; width.saturating_mul(height)],
         }
@@ -145,6 +146,28 @@ impl Raster {
             first = last.saturating_add(1);
         }
         Ok(())
+    }
+
+    /// The cells, those without points among others that have some filled: with the mean of what is around them.
+    fn filled(&self) -> Vec<f64> {
+        let heights = &self.heights;
+        let mean = |place: usize| {
+            let (row, column) = (place / self.width, place % self.width);
+            let around = |at: usize, most: usize| at.saturating_sub(1)..=(at + 1).min(most - 1);
+            let cells = around(row, self.height)
+                .flat_map(|row| around(column, self.width).map(move |column| (row, column)))
+                .filter_map(|(row, column)| heights.get(row * self.width + column))
+                .filter(|z| z.is_finite());
+            let (count, sum) = cells.fold((0_u32, 0.0), |(count, sum), z| (count + 1, sum + z));
+            (count >= AROUND).then(|| sum / f64::from(count))
+        };
+        let cells = heights.iter().enumerate();
+        cells
+            .map(|(place, z)| match z.is_finite() {
+                true => *z,
+                false => mean(place).unwrap_or(*z),
+            })
+            .collect()
     }
 
     /// Factor and summand that make a place in the raster of a stored number.
@@ -228,7 +251,7 @@ impl Picture {
         }
         let colors = colors();
         let pixels: Vec<u8> = raster
-            .heights
+            .filled()
             .iter()
             .map(|z| match z.is_finite() {
                 true => level(*z, low, high),
@@ -262,8 +285,8 @@ fn colors() -> [Color; 256] {
     let steps = (RAMP.len() - 1) as f64;
     for (level, color) in colors.iter_mut().enumerate().skip(1) {
         let at = (level - 1) as f64 / 254.0 * steps;
-        let (from, part) = (at.floor().min(steps - 1.0), at);
-        let part = part - from;
+        let from = at.floor().min(steps - 1.0);
+        let part = at - from;
         let stop = |place: usize| RAMP.get(place).copied().unwrap_or(EMPTY);
         let (one, other) = (stop(from as usize), stop(from as usize + 1));
         for ((mixed, one), other) in color.iter_mut().zip(one).zip(other) {
@@ -298,7 +321,25 @@ mod tests {
         assert_eq!(size(0.0, 30.0, 1 << 40), (1, 900));
         assert_eq!(size(0.0, 0.0, 100), (1, 1));
         assert_eq!(size(30.0, 30.0, 1), (1, 1));
-        assert_eq!(size(f64::MAX, 1.0, 9_000), (1, 1));
+        assert_eq!(size(f64::MAX, 1.0, 9_000), (900, 1));
+        assert_eq!(size(f64::INFINITY, 1.0, 9_000), (1, 1));
+    }
+
+    #[test]
+    fn single_cells_are_filled_and_edges_are_not() {
+        let mut raster = Raster::new(area(5.0, 5.0), 50);
+        assert_eq!((raster.width, raster.height), (5, 5));
+        let none = f64::NEG_INFINITY;
+        for (place, height) in raster.heights.iter_mut().enumerate() {
+            *height = if place / 5 == 4 { none } else { 2.0 };
+        }
+        // One without points in the middle of a slope, and the last row.
+        (raster.heights[6], raster.heights[7]) = (8.0, none);
+        let filled = raster.filled();
+        assert_eq!(filled[7], (8.0 + 7.0 * 2.0) / 8.0);
+        assert_eq!(filled[20..], [none; 5]);
+        raster.heights[7] = filled[7];
+        assert_eq!(filled, raster.heights);
     }
 
     #[test]

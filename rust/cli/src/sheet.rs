@@ -42,8 +42,8 @@ pub(crate) const COMMAND: Command = Command {
     help: "\
 All points of all files are counted, record by record, withheld ones too: what headers say of them is not believed. So
 the classes add up to the points, and so do the return numbers, of which 0 is one. Classes that no point has are left
-out. Their names are the standard's, which differ between point formats 0 to 5 and 6 to 10: where the sheet has points
-of both and the names differ, both are told.
+out. Their names are the standard's; a class that it names in point formats 0 to 5 alone, or in 6 to 10 alone, is
+reserved in the others.
 
 Smallest and largest X, Y and Z are the whole numbers as they are stored. Where all files that have points have one
 scale and one offset, they are shown scaled too; else they say nothing of the ground. Without points there are none.
@@ -154,18 +154,19 @@ impl Site {
         grids.all(|(_, taken)| taken.grid.is(grid)).then_some(*grid)
     }
 
-    /// What a class is called.
-    pub(crate) fn class(&self, class: u8) -> String {
+    /// What a class is called, by the formats that there are points of. No class has two names: where old and new points differ, it is
+    /// reserved in one of them.
+    fn class(&self, class: u8) -> &'static str {
         let [old, new] = [true, false].map(|old| known::class(class, old));
         match (self.old, self.new) {
-            (true, true) if old != new => format!("{old}, or {new}"),
-            (true, _) => old.to_string(),
-            _ => new.to_string(),
+            (true, true) if old == known::RESERVED => new,
+            (true, _) => old,
+            _ => new,
         }
     }
 
     /// The classes that points have: number, name and points.
-    pub(crate) fn classes(&self) -> Vec<(u8, String, u64)> {
+    pub(crate) fn classes(&self) -> Vec<(u8, &'static str, u64)> {
         let all = (0..=u8::MAX).zip(self.sheet.classes());
         let some = all.filter(|(_, points)| **points > 0);
         some.map(|(class, points)| (class, self.class(class), *points))
@@ -447,7 +448,7 @@ fn text(site: &Site, written: Option<&(Name, u64)>, out: &mut Output) -> Result<
     out.line("")?;
     let mut classes: Vec<Vec<String>> = vec![head("class")];
     for (class, name, points) in site.classes() {
-        classes.push(row(class.to_string(), name, points));
+        classes.push(row(class.to_string(), name.to_string(), points));
     }
     classes.push(total());
     table(&classes, 1, out)?;
@@ -489,7 +490,7 @@ fn bounds(axes: &[Axis]) -> Vec<Vec<String>> {
     let one_grid = axes.iter().all(|axis| axis.scaled.is_some());
     let mut head = vec!["", "smallest", "largest"];
     if one_grid {
-        head.extend(["scaled", ""]);
+        head.extend(["smallest scaled", "largest scaled"]);
     }
     let mut rows = vec![head.into_iter().map(String::from).collect::<Vec<_>>()];
     for axis in axes {
@@ -530,7 +531,7 @@ fn objects(site: &Site, written: Option<&(Name, u64)>, out: &mut Output) -> Resu
         .number("points", sheet.points());
     let classes = site.classes().into_iter().map(|(class, name, points)| {
         let mut object = Object::new();
-        object.number("class", class).text("name", &name);
+        object.number("class", class).text("name", name);
         object.number("points", points).finish()
     });
     object.list("classes", classes);
