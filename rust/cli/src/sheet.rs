@@ -302,7 +302,13 @@ fn target(page: &OsStr, force: bool, inputs: &BTreeSet<(u64, u64)>) -> Result<Ta
     if page == "-" {
         return Err(wrong("--html has to be a file"));
     }
-    let judged = Target::find(Path::new(page)).and_then(|target| {
+    let path = Path::new(page);
+    let judged = || {
+        // The folder has to be there, which else only the writing would tell.
+        if let Some(folder) = path.parent().filter(|folder| *folder != Path::new("")) {
+            fs::metadata(folder)?;
+        }
+        let target = Target::find(path)?;
         match target.id() {
             Some(id) if inputs.contains(&id) => {
                 let words = "it is one of the files that are to be counted";
@@ -311,8 +317,8 @@ fn target(page: &OsStr, force: bool, inputs: &BTreeSet<(u64, u64)>) -> Result<Ta
             _ => target.judge(force)?,
         }
         Ok(target)
-    });
-    judged.map_err(|error| unwritten(page, &error))
+    };
+    judged().map_err(|error| unwritten(page, &error))
 }
 
 /// That the page could not be written.

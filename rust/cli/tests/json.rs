@@ -209,12 +209,9 @@ fn every_field_that_is_printed_is_told_and_every_one_that_is_told_is_printed() {
                 ("classify", _, true) if has("point") => "classify, for a point that is refused:",
                 ("classify", _, true) => "classify, for a file that is refused:",
                 ("classify", ..) => "classify, for a point that has its class, or can have it:",
-                ("grid", _, true) if has("says") => {
-                    "grid, for a file whose directory of keys is refused:"
-                }
-                (_, _, true) => {
-                    "parts, info, grid, points and rewrite, for a file that is refused:"
-                }
+                (_, _, true) => "parts, info, points, sheet and rewrite, for a file that is refused:",
+                ("sheet", ..) if has("file") => "sheet, for a file that was counted:",
+                ("sheet", ..) => "sheet, after the files:",
                 ("check", ..) => "check, for a file that is accepted:",
                 ("parts", ..) => "parts, for a file that is accepted:",
                 ("info", ..) => "info, for a file that is accepted:",
@@ -234,7 +231,7 @@ fn every_field_that_is_printed_is_told_and_every_one_that_is_told_is_printed() {
         }
     };
     for path in &files {
-        for command in ["check", "parts", "info", "grid", "points", "ask"] {
+        for command in ["check", "parts", "info", "points", "sheet", "ask"] {
             see(&[command], path, &[]);
         }
         see(&["ask", "--to", "1.2"], path, &[]);
@@ -242,6 +239,9 @@ fn every_field_that_is_printed_is_told_and_every_one_that_is_told_is_printed() {
         let name = path.file_name().unwrap().to_str().unwrap();
         see(&["rewrite"], path, &[&folder.join(&format!("new-{name}"))]);
     }
+    let page = folder.join("page.html");
+    let page = page.to_str().unwrap();
+    see(&["sheet", "--html", page], &files[1], &[]);
     let records = folder.put("records", &[0; 40]);
     for path in &files {
         see(&["append", "--room", "7"], path, &[]);
