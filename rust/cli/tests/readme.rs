@@ -52,8 +52,15 @@ fn the_tool_says_what_it_shows() {
         let mut lines = shown.lines();
         let words = lines.next().unwrap();
         let mut expected = String::new();
-        for line in lines.map_while(|line| line.strip_prefix("    ")) {
-            expected.push_str(line);
+        // An empty line belongs to it where the next one does.
+        let mut lines = lines.peekable();
+        while let Some(line) = lines.next() {
+            match line.strip_prefix("    ") {
+                Some(line) => expected.push_str(line),
+                None if line.is_empty()
+                    && lines.peek().map_or(false, |next| next.starts_with("    ")) => {}
+                None => break,
+            }
             expected.push('\n');
         }
         commands.push(words.split(' ').next().unwrap());
@@ -66,5 +73,5 @@ fn the_tool_says_what_it_shows() {
             .unwrap();
         assert_eq!(String::from_utf8(output.stdout).unwrap(), expected);
     }
-    assert_eq!(commands, ["check", "ask", "convert", "classify", "grid"]);
+    assert_eq!(commands, ["check", "ask", "convert", "sheet", "classify"]);
 }
