@@ -163,7 +163,7 @@ fn add_all(a: &mut [u64], b: &[u64])
     requires { ⌜ (length (now a) ≡ length (now b)) × (allFit (now a) (now b) ≡ true) ⌝ }
     ensures { λ _. ⌜ now (a .exit) ≡ sums (now (a .entry)) (now (b .entry)) ⌝ }
 {
-    for i in 0..a.len() {
+    for i in 0..b.len() {
         a[i] = a[i] + b[i];
     }
 }

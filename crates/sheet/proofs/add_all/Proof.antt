@@ -11,17 +11,17 @@ abbrev Inv-loop : tie.InvT-loop
 Inv-loop a₀ b i₀ i-end a i = Adding a₀ b a i
 
 abbrev μ-loop : tie.MeasureT-loop
-μ-loop a₀ b i₀ i-end a i = length a₀ - i
+μ-loop a₀ b i₀ i-end a i = length b - i
 
 module _ (c : tie.In-loop Inv-loop μ-loop) where
   abbrev s : tie.Start Inv-loop μ-loop
   s = c .before .before
 
   in-a : c .before .loop .i < length (c .before .loop .a)
-  in-a = omega (arith, c .before .loop .inv .kept, c .loop-test .taken)
+  in-a = omega (arith, c .before .loop .inv .kept, c .loop-test .taken, s .pre .0)
 
   in-b : c .before .loop .i < length (s .args .b .now)
-  in-b = omega (arith, c .loop-test .taken, s .pre .0)
+  in-b = c .loop-test .taken
 
   fits : getD (c .before .loop .a) (c .before .loop .i) 0 + getD (s .args .b .now) (c .before .loop .i) 0 < 2 ^ 64
   fits = fits-here (s .args .a .now) (s .args .b .now) (c .before .loop .inv) in-a in-b
@@ -33,8 +33,8 @@ loop-again c =
 
 returns : tie.Need-returns Inv-loop μ-loop
 returns c =
-    let a = c .before .before .args in
-    done (a .a .now) (a .b .now) (c .before .loop .inv) (omega (arith, c .before .loop .inv .kept, c .loop-test .left))
+    let s = c .before .before in
+    done (s .args .a .now) (s .args .b .now) (c .before .loop .inv) (omega (arith, c .before .loop .inv .kept, c .loop-test .left, s .pre .0))
 
 pub add-all-spec : {M : Type 1} → statement M
 add-all-spec =
