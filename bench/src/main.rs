@@ -60,6 +60,13 @@ const COLUMNS: Line = Line {
     ..SUMS
 };
 
+const SHEET: Line = Line {
+    name: "site sheet",
+    rust: Work::rust_sheet,
+    port: Work::port_sheet,
+    ..READ
+};
+
 const REWRITE: Line = Line {
     name: "rewriting",
     code: 6,
@@ -116,12 +123,13 @@ const CHECK: Line = Line {
     ..READ
 };
 
-const LINES: [Line; 12] = [
+const LINES: [Line; 13] = [
     READ,
     WRITE,
     WALK,
     SUMS,
     COLUMNS,
+    SHEET,
     REWRITE,
     QUESTION,
     TO_OLD,
@@ -132,7 +140,7 @@ const LINES: [Line; 12] = [
 ];
 
 /// Which of them are timed at several sizes, and at which.
-const GROWING: [Line; 4] = [WALK, REWRITE, TO_OLD, CHECK];
+const GROWING: [Line; 5] = [WALK, SHEET, REWRITE, TO_OLD, CHECK];
 const SIZES: [usize; 5] = [1_000, 10_000, 100_000, 1_000_000, 10_000_000];
 
 /// How many rounds a large file, or a class that is set, is timed for.

@@ -5,7 +5,7 @@ use crate::by_hand;
 use las::{
     PointData, PointDataBuilder,
     point::Format,
-    raw::{Header, Point, Vlr},
+    raw::{Header, Point, Vlr, point::Flags},
 };
 use oracle::{
     capi::{self, PointNumbers},
@@ -48,8 +48,10 @@ pub struct Work {
     columns: PointData,
     rust_made: Vec<u8>,
     rust_summed: [i64; 3],
+    rust_counted: [u64; 281],
     port_made: Vec<u8>,
     port_summed: [i64; 3],
+    port_counted: [u64; 281],
 }
 
 impl Work {
@@ -76,8 +78,10 @@ impl Work {
             // A format's pair has at most two bytes more.
             rust_made: vec![0xff; file.len() + 2 * count],
             rust_summed: [0; 3],
+            rust_counted: [0; 281],
             port_made: vec![0xff; file.len() + 2 * count],
             port_summed: [0; 3],
+            port_counted: [0; 281],
             file,
         }
     }
@@ -94,6 +98,7 @@ impl Work {
     pub fn check_made(&self) {
         assert!(self.rust_made == self.port_made[..self.rust_made.len()]);
         assert_eq!(self.rust_summed, self.port_summed);
+        assert_eq!(self.rust_counted, self.port_counted);
     }
 
     /// The port reads the Rust's numbers of every point that is kept, alone and walking over the file.
@@ -263,6 +268,31 @@ impl Work {
         self.rust_summed = black_box(sums);
     }
 
+    /// The site sheet of the one file, by its points.
+    pub fn rust_sheet(&mut self) {
+        let mut counted = [0; 281];
+        counted[0] = 1;
+        let mut bounds = [i32::MAX, i32::MIN].repeat(3);
+        self.rust_points(|point| {
+            let (number, class) = match point.flags {
+                Flags::TwoByte(a, b) => (a & 0b111, b & 0b1_1111),
+                Flags::ThreeByte(a, _, c) => (a & 0b1111, c),
+            };
+            counted[1] += 1;
+            counted[9 + usize::from(class)] += 1;
+            counted[265 + usize::from(number)] += 1;
+            for (pair, stored) in bounds.chunks_exact_mut(2).zip([point.x, point.y, point.z]) {
+                pair[0] = pair[0].min(stored);
+                pair[1] = pair[1].max(stored);
+            }
+        });
+        counted[2] = 1;
+        for (number, bound) in counted[3..9].iter_mut().zip(bounds) {
+            *number = u64::from(bound as u32);
+        }
+        self.rust_counted = black_box(counted);
+    }
+
     /// The Rust's own columns, which do not read points at all.
     pub fn rust_columns(&mut self) {
         let columns = black_box(&self.columns);
@@ -400,6 +430,13 @@ impl Work {
         let mut sums = [0; 3];
         self.port_points(|n| add(&mut sums, [n[0], n[1], n[2]].map(|bits| bits as i32)));
         self.port_summed = black_box(sums);
+    }
+
+    pub fn port_sheet(&mut self) {
+        let (mut sheet, mut row) = ([0; 281], [0; 3]);
+        capi::las_sheet_add(&self.file, MANY, &mut sheet, &mut row);
+        assert_eq!(row[0], 0);
+        self.port_counted = black_box(sheet);
     }
 
     pub fn port_rewrite(&mut self) {
