@@ -4,7 +4,7 @@
 use super::{
     picture::{Picture, RAMP},
     png,
-    sheet::{share, Axis, Outcome, Site},
+    sheet::{share, Axis, Outcome, Site, OTHER_GRIDS},
     show::{counted, grouped, plain},
 };
 
@@ -49,8 +49,8 @@ pub(crate) fn of(site: &Site, picture: Option<&Picture>) -> String {
     page.push_str(&returns(site));
     page.push_str("</div>\n");
     page.push_str(&bounds(site));
-    page.push_str(&files(site));
     page.push_str(&refused(site));
+    page.push_str(&files(site));
     page.push_str("</body>\n</html>\n");
     page
 }
@@ -296,10 +296,8 @@ fn bounds(site: &Site) -> String {
         text.push_str("</tr>\n");
     }
     text.push_str("</table>");
-    if !one_grid {
-        text.push_str(
-            "<p class=\"note\">The files have not one scale and offset, so these numbers say nothing of the ground.</p>",
-        );
+    if site.grid().is_none() {
+        text.push_str(&format!("<p class=\"note\">{OTHER_GRIDS}</p>"));
     }
     text + "</section>\n"
 }

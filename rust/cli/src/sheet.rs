@@ -63,6 +63,10 @@ Examples:
     run,
 };
 
+/// What is said of bounds that are not scaled.
+pub(crate) const OTHER_GRIDS: &str =
+    "The files do not have one scale and offset, so these stored numbers say nothing of the ground.";
+
 /// A file that was counted.
 pub(crate) struct Taken {
     path: OsString,
@@ -470,7 +474,12 @@ fn text(site: &Site, written: Option<&(Name, u64)>, out: &mut Output) -> Result<
     out.line("")?;
     match site.axes() {
         None => out.line("no points, so no smallest and no largest")?,
-        Some(axes) => table(&bounds(&axes), 0, out)?,
+        Some(axes) => {
+            table(&bounds(&axes), 0, out)?;
+            if site.grid().is_none() {
+                out.line(OTHER_GRIDS)?;
+            }
+        }
     }
 
     out.line("")?;
