@@ -37,6 +37,10 @@ pub type BoundsNumbers = [u64; 6];
 /// each return number.
 pub type SheetNumbers = [u64; 281];
 
+/// A site sheet, as the library keeps it: files, points, whether it has bounds and the six of them, the points of each class, and those of
+/// each return number.
+pub type SheetNumbers = [u64; 281];
+
 /// A header, as the library lists it: its numbers and its texts.
 #[derive(Clone, Copy, Debug, PartialEq, Eq)]
 pub struct HeaderNumbers {
@@ -186,7 +190,10 @@ total! {
 // A slice crosses as its pointer and its length: that the two belong together is what the functions below see to, each over
 // the declaration that it calls.
 mod lent {
-    use super::{BoundsNumbers, Cursor, Place, PointNumbers, Row, SheetNumbers, Span, Sweep};
+    use super::{
+        AttributeNumbers, AttributesPlace, BoundsNumbers, Cursor, Place, PointNumbers, Row,
+        SheetNumbers, Span, Sweep,
+    };
 
     extern "C" {
         pub(super) fn las_point_read(
@@ -909,6 +916,13 @@ pub fn las_columns_xyz(
             from, len, allowance, first, count, x, x_len, y, y_len, z, z_len, row,
         )
     }
+}
+
+/// Adds a file to a site sheet; a refused one leaves it.
+#[inline]
+pub fn las_sheet_add(file: &[u8], allowance: u64, sheet: &mut SheetNumbers, row: &mut Row) {
+    // SAFETY: pointer and length are those of one borrowed slice.
+    unsafe { lent::las_sheet_add(file.as_ptr(), file.len(), allowance, sheet, row) }
 }
 
 /// Adds a file to a site sheet; a refused one leaves it.
