@@ -256,6 +256,11 @@ impl Whole {
         Patch { at, width, value }.apply(&mut self.bytes);
     }
 
+    /// The records of the points, one after the other.
+    pub fn records(&mut self) -> impl Iterator<Item = &mut [u8]> {
+        self.bytes[self.point_offset..self.point_end].chunks_exact_mut(self.record_length)
+    }
+
     /// Allowances on both sides of what the file has of records, and at the ends.
     pub fn allowances(&self) -> [u64; 7] {
         let exact = (self.vlrs.len() + self.later.len()) as u64;

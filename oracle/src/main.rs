@@ -3,8 +3,8 @@
 use oracle::{
     angle, append, attribute, column, convert, convert_plain, file, flags, format, header, keys,
     listings, migrate, nir, point, reclassify, replay, replay_append, replay_attribute,
-    replay_column, replay_keys, replay_migrate, replay_reclassify, replay_records, report::Tally,
-    strict, vlr,
+    replay_column, replay_migrate, replay_reclassify, replay_records, replay_sheet, report::Tally,
+    sheet, strict, vlr,
 };
 use std::{env, fs, io, path::Path, process::ExitCode};
 
@@ -19,7 +19,7 @@ const SUBJECTS: [&str; 18] = [
     "file",
     "column",
     "attribute",
-    "keys",
+    "sheet",
     "append",
     "reclassify",
     "strict",
@@ -44,7 +44,7 @@ fn compare(crates: &Path, write: bool, asked: &[String]) -> io::Result<bool> {
         ("file", file::compare),
         ("column", column::compare),
         ("attribute", attribute::compare),
-        ("keys", keys::compare),
+        ("sheet", sheet::compare),
         ("append", append::compare),
         ("reclassify", reclassify::compare),
         ("strict", strict::compare),
@@ -65,7 +65,7 @@ fn compare(crates: &Path, write: bool, asked: &[String]) -> io::Result<bool> {
         listings::compare(&mut tally, &crates.join("listings"), write)?;
         replay_column::compare(&mut tally, &crates.join("../c/replay_column"), write)?;
         replay_attribute::compare(&mut tally, &crates.join("../c/replay_attribute"), write)?;
-        replay_keys::compare(&mut tally, &crates.join("../c/replay_keys"), write)?;
+        replay_sheet::compare(&mut tally, &crates.join("../c/replay_sheet"), write)?;
         replay_append::compare(&mut tally, &crates.join("../c/replay"), write)?;
         replay_migrate::compare(&mut tally, &crates.join("../c/replay_migrate"), write)?;
         replay_reclassify::compare(&mut tally, &crates.join("../c/replay_reclassify"), write)?;
