@@ -96,6 +96,8 @@ int main(int argc, char **argv) {
     test_headers();
     test_files();
     test_columns();
+    test_attributes();
+    test_keys();
     test_sheet();
     test_append();
     test_reclassify();

@@ -3,13 +3,13 @@
 use oracle::{
     angle, append, attribute, column, convert, convert_plain, file, flags, format, header, keys,
     listings, migrate, nir, point, reclassify, replay, replay_append, replay_attribute,
-    replay_column, replay_migrate, replay_reclassify, replay_records, replay_sheet, report::Tally,
-    sheet, strict, vlr,
+    replay_column, replay_keys, replay_migrate, replay_reclassify, replay_records, replay_sheet,
+    report::Tally, sheet, strict, vlr,
 };
 use std::{env, fs, io, path::Path, process::ExitCode};
 
 /// What there is to compare, by the name that it is asked for by.
-const SUBJECTS: [&str; 18] = [
+const SUBJECTS: [&str; 19] = [
     "format",
     "flags",
     "angle",
@@ -20,6 +20,7 @@ const SUBJECTS: [&str; 18] = [
     "column",
     "attribute",
     "sheet",
+    "keys",
     "append",
     "reclassify",
     "strict",
@@ -45,6 +46,7 @@ fn compare(crates: &Path, write: bool, asked: &[String]) -> io::Result<bool> {
         ("column", column::compare),
         ("attribute", attribute::compare),
         ("sheet", sheet::compare),
+        ("keys", keys::compare),
         ("append", append::compare),
         ("reclassify", reclassify::compare),
         ("strict", strict::compare),
@@ -66,6 +68,7 @@ fn compare(crates: &Path, write: bool, asked: &[String]) -> io::Result<bool> {
         replay_column::compare(&mut tally, &crates.join("../c/replay_column"), write)?;
         replay_attribute::compare(&mut tally, &crates.join("../c/replay_attribute"), write)?;
         replay_sheet::compare(&mut tally, &crates.join("../c/replay_sheet"), write)?;
+        replay_keys::compare(&mut tally, &crates.join("../c/replay_keys"), write)?;
         replay_append::compare(&mut tally, &crates.join("../c/replay"), write)?;
         replay_migrate::compare(&mut tally, &crates.join("../c/replay_migrate"), write)?;
         replay_reclassify::compare(&mut tally, &crates.join("../c/replay_reclassify"), write)?;

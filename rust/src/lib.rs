@@ -71,6 +71,7 @@
 //! A whole file of LAS 1.2 becomes one of LAS 1.4, for clients who move to newer software, by [`File::to_new`], and comes back by
 //! [`File::to_old`].
 //!
+//! Which grid the points are in is said by coordinate keys: [`File::keys`], and the module [`keys`].
 //! Many files come to one [`Sheet`]: their points by class and by return number, and the smallest and largest of their stored numbers.
 //!
 //! A scanner makes a file of LAS 1.2 by [`NewFile`], opens it as a [`Writer`], and appends sweep after sweep: an [`Append`] can be

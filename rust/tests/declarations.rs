@@ -85,7 +85,7 @@ fn declarations_are_those_of_the_sources() {
         })
         .map(|(name, of)| (name.to_string(), of.to_string()))
         .collect();
-    assert_eq!(aliases.len(), 8);
+    assert_eq!(aliases.len(), 10);
     assert!(ours.keys().eq(exported.keys()));
     for (name, types) in ours {
         let types: Types = types

@@ -70,6 +70,89 @@ pub(crate) fn date(year: u16, day_of_year: u16) -> Option<String> {
     None
 }
 
+/// The name that GeoTIFF gives a coordinate key.
+pub(crate) fn key(id: u16) -> Option<&'static str> {
+    Some(match id {
+        1024 => "GTModelType",
+        1025 => "GTRasterType",
+        1026 => "GTCitation",
+        2048 => "GeographicType",
+        2049 => "GeogCitation",
+        2050 => "GeogGeodeticDatum",
+        2051 => "GeogPrimeMeridian",
+        2052 => "GeogLinearUnits",
+        2053 => "GeogLinearUnitSize",
+        2054 => "GeogAngularUnits",
+        2055 => "GeogAngularUnitSize",
+        2056 => "GeogEllipsoid",
+        2057 => "GeogSemiMajorAxis",
+        2058 => "GeogSemiMinorAxis",
+        2059 => "GeogInvFlattening",
+        2060 => "GeogAzimuthUnits",
+        2061 => "GeogPrimeMeridianLong",
+        2062 => "GeogTOWGS84",
+        3072 => "ProjectedCSType",
+        3073 => "PCSCitation",
+        3074 => "Projection",
+        3075 => "ProjCoordTrans",
+        3076 => "ProjLinearUnits",
+        3077 => "ProjLinearUnitSize",
+        3078 => "ProjStdParallel1",
+        3079 => "ProjStdParallel2",
+        3080 => "ProjNatOriginLong",
+        3081 => "ProjNatOriginLat",
+        3082 => "ProjFalseEasting",
+        3083 => "ProjFalseNorthing",
+        3084 => "ProjFalseOriginLong",
+        3085 => "ProjFalseOriginLat",
+        3086 => "ProjFalseOriginEasting",
+        3087 => "ProjFalseOriginNorthing",
+        3088 => "ProjCenterLong",
+        3089 => "ProjCenterLat",
+        3090 => "ProjCenterEasting",
+        3091 => "ProjCenterNorthing",
+        3092 => "ProjScaleAtNatOrigin",
+        3093 => "ProjScaleAtCenter",
+        3094 => "ProjAzimuthAngle",
+        3095 => "ProjStraightVertPoleLong",
+        3096 => "ProjRectifiedGridAngle",
+        4096 => "VerticalCSType",
+        4097 => "VerticalCitation",
+        4098 => "VerticalDatum",
+        4099 => "VerticalUnits",
+        _ => return None,
+    })
+}
+
+/// The unit, of lengths or of angles, that a code of EPSG stands for.
+pub(crate) fn unit(code: u16) -> Option<&'static str> {
+    Some(match code {
+        9001 => "metres",
+        9002 => "feet",
+        9003 => "US survey feet",
+        9004 => "modified American feet",
+        9005 => "Clarke's feet",
+        9006 => "Indian feet",
+        9007 => "links",
+        9008 => "Benoit links",
+        9009 => "Sears links",
+        9010 => "Benoit chains",
+        9011 => "Sears chains",
+        9012 => "Sears yards",
+        9013 => "Indian yards",
+        9014 => "fathoms",
+        9015 | 9030 => "nautical miles",
+        9036 => "kilometres",
+        9101 => "radians",
+        9102 => "degrees",
+        9103 => "arc-minutes",
+        9104 => "arc-seconds",
+        9105 => "grads",
+        9106 => "gons",
+        _ => return None,
+    })
+}
+
 /// What the standard calls classes that it has not named yet.
 pub(crate) const RESERVED: &str = "reserved";
 

@@ -261,7 +261,7 @@ fn overview() -> String {
     }
     text.push_str(
         "  help     teach a command: inscjarol help points\n\n\
-         Files may be of any size; - is the standard input. Of a folder check, parts, info, sheet, ask and convert take the .las files.\n\
+         Files may be of any size; - is the standard input. Of a folder check, parts, info, grid, sheet, ask and convert take the .las files.\n\
          Every command takes --json: 'inscjarol help json' says what that prints.\n\
          Exit status: 0 all is well, 1 a file was refused, 2 wrong use or a file that cannot be read or written.\n\n\
          To begin with:\n  inscjarol check *.las\n  inscjarol info FILE\n  inscjarol points FILE | head\n",

@@ -209,7 +209,12 @@ fn every_field_that_is_printed_is_told_and_every_one_that_is_told_is_printed() {
                 ("classify", _, true) if has("point") => "classify, for a point that is refused:",
                 ("classify", _, true) => "classify, for a file that is refused:",
                 ("classify", ..) => "classify, for a point that has its class, or can have it:",
-                (_, _, true) => "parts, info, points, sheet and rewrite, for a file that is refused:",
+                ("grid", _, true) if has("says") => {
+                    "grid, for a file whose directory of keys is refused:"
+                }
+                (_, _, true) => {
+                    "parts, info, grid, points, sheet and rewrite, for a file that is refused:"
+                }
                 ("sheet", ..) if has("file") => "sheet, for a file that was counted:",
                 ("sheet", ..) => "sheet, after the files:",
                 ("check", ..) => "check, for a file that is accepted:",
@@ -231,7 +236,7 @@ fn every_field_that_is_printed_is_told_and_every_one_that_is_told_is_printed() {
         }
     };
     for path in &files {
-        for command in ["check", "parts", "info", "points", "sheet", "ask"] {
+        for command in ["check", "parts", "info", "grid", "points", "sheet", "ask"] {
             see(&[command], path, &[]);
         }
         see(&["ask", "--to", "1.2"], path, &[]);

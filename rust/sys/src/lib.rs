@@ -33,10 +33,13 @@ pub type Sweep = [u64; 8];
 /// The bits of max x, min x, max y, min y, max z and min z.
 pub type BoundsNumbers = [u64; 6];
 
-/// A site sheet, as the library keeps it: files, points, whether it has bounds and the six of them, the points of each class, and those of
-/// each return number.
-pub type SheetNumbers = [u64; 281];
+/// An attribute: its data type, the bytes of a value, where the first point's value is, the bytes from one point's value to the next
+/// one's, and the count of points.
+pub type AttributeNumbers = [u64; 5];
 
+/// A place among the attributes of a file: where the next descriptor is, how many are left, where the first point's next value is, the
+/// bytes from one point's value to the next one's, and the count of points.
+pub type AttributesPlace = [u64; 5];
 /// A site sheet, as the library keeps it: files, points, whether it has bounds and the six of them, the points of each class, and those of
 /// each return number.
 pub type SheetNumbers = [u64; 281];
@@ -918,11 +921,113 @@ pub fn las_columns_xyz(
     }
 }
 
-/// Adds a file to a site sheet; a refused one leaves it.
+/// Where the data of the first VLR with this user id and record id is: then the value is 1, and else 0.
 #[inline]
-pub fn las_sheet_add(file: &[u8], allowance: u64, sheet: &mut SheetNumbers, row: &mut Row) {
+pub fn las_vlr_first(
+    file: &[u8],
+    allowance: u64,
+    user: &[u8],
+    record_id: u16,
+    part: &mut Span,
+    row: &mut Row,
+) {
+    let (from, len) = (file.as_ptr(), file.len());
+    let (by, by_len) = (user.as_ptr(), user.len());
+    // SAFETY: both pointers go with the lengths of their borrowed slices.
+    unsafe { lent::las_vlr_first(from, len, allowance, by, by_len, record_id, part, row) }
+}
+
+// Calls on attributes, which are values in the extra bytes of every point; and on their descriptors.
+
+/// The place before the first attribute; the value is how many there are.
+#[inline]
+pub fn las_attributes(file: &[u8], allowance: u64, place: &mut AttributesPlace, row: &mut Row) {
     // SAFETY: pointer and length are those of one borrowed slice.
-    unsafe { lent::las_sheet_add(file.as_ptr(), file.len(), allowance, sheet, row) }
+    unsafe { lent::las_attributes(file.as_ptr(), file.len(), allowance, place, row) }
+}
+
+/// Whether there is an attribute at the place: then it and where its descriptor is, and the place moves on.
+#[inline]
+pub fn las_attributes_next(
+    file: &[u8],
+    place: &mut AttributesPlace,
+    attribute: &mut AttributeNumbers,
+    part: &mut Span,
+) -> u8 {
+    // SAFETY: pointer and length are those of one borrowed slice.
+    unsafe { lent::las_attributes_next(file.as_ptr(), file.len(), place, attribute, part) }
+}
+
+/// The attribute with this name.
+#[inline]
+pub fn las_attribute_find(
+    file: &[u8],
+    allowance: u64,
+    name: &[u8],
+    attribute: &mut AttributeNumbers,
+    row: &mut Row,
+) {
+    let (from, len) = (file.as_ptr(), file.len());
+    let (by, by_len) = (name.as_ptr(), name.len());
+    // SAFETY: both pointers go with the lengths of their borrowed slices.
+    unsafe { lent::las_attribute_find(from, len, allowance, by, by_len, attribute, row) }
+}
+
+/// Where an attribute's value in a point is, counted from 1; the value of the row is the number that its first eight bytes are.
+#[inline]
+pub fn las_attribute_value(
+    file: &[u8],
+    attribute: &AttributeNumbers,
+    point: u64,
+    part: &mut Span,
+    row: &mut Row,
+) {
+    // SAFETY: pointer and length are those of one borrowed slice.
+    unsafe { lent::las_attribute_value(file.as_ptr(), file.len(), attribute, point, part, row) }
+}
+
+/// These numbers of so many points from the first on, counted from 1.
+#[inline]
+pub fn las_attribute_column(
+    file: &[u8],
+    attribute: &AttributeNumbers,
+    stretch: (u64, u64),
+    dst: &mut [u64],
+    row: &mut Row,
+) {
+    let (first, count) = stretch;
+    let (from, len) = (file.as_ptr(), file.len());
+    let (to, to_len) = (dst.as_mut_ptr(), dst.len());
+    // SAFETY: both pointers go with the lengths of their borrowed slices, of which the one written to is borrowed alone.
+    unsafe { lent::las_attribute_column(from, len, attribute, first, count, to, to_len, row) }
+}
+
+/// The descriptor at the front of the slice.
+#[inline]
+pub fn las_descriptor_read(s: &[u8], row: &mut Row, descriptor: &mut DescriptorNumbers) {
+    let DescriptorNumbers {
+        numbers,
+        name,
+        deprecated,
+        description,
+    } = descriptor;
+    let (from, len) = (s.as_ptr(), s.len());
+    // SAFETY: pointer and length are those of one borrowed slice.
+    unsafe { lent::las_descriptor_read(from, len, row, numbers, name, deprecated, description) }
+}
+
+/// Writes a descriptor.
+#[inline]
+pub fn las_descriptor_write(descriptor: &DescriptorNumbers, dst: &mut [u8], row: &mut Row) {
+    let DescriptorNumbers {
+        numbers,
+        name,
+        deprecated,
+        description,
+    } = descriptor;
+    let (to, to_len) = (dst.as_mut_ptr(), dst.len());
+    // SAFETY: pointer and length are those of one slice, which is borrowed alone.
+    unsafe { lent::las_descriptor_write(numbers, name, deprecated, description, to, to_len, row) }
 }
 
 /// Adds a file to a site sheet; a refused one leaves it.
