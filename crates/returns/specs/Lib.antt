@@ -1,0 +1,4 @@
+-- definitions
+pub mod Returns
+-- laws
+pub mod Laws

@@ -1,0 +1,6 @@
+-- definitions
+pub mod Rest
+-- laws
+pub mod Laws
+-- theorems
+pub mod Theorems
