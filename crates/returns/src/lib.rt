@@ -33,7 +33,7 @@ pub struct Survey {
 }
 
 // The points of a file, each of which is looked at once. Of a file that the file check refuses, none.
-pub fn survey(file: &[u8], allowance: u64) -> Survey
+pub fn survey_of(file: &[u8], allowance: u64) -> Survey
     ensures { λ r. ⌜ r ≡ surveyOf allowance (now (file .entry)) ⌝ }
 {
     let begun = walker::begin(file, allowance);
