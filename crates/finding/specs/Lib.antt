@@ -1,0 +1,4 @@
+-- definitions
+pub mod Rules
+-- definitions, with laws of them
+pub mod Told
