@@ -3,7 +3,7 @@ use Prim.Native.Nat.{ℕ, zero, suc, _+_, _*_, _-_, _≤_, _<_, _^_}
 use mathlib.Core.Path.{_≡_, refl, ap, sym, _∙_}
 use mathlib.Core.Bool.{Bool, true, false, cond}
 use mathlib.Core.List.{List}
-use native.Mathlib.Nat.{add-suc, suc-add, add-zero}
+use native.Mathlib.Nat.{add-suc, suc-add, add-zero, zero-add}
 use native.Mathlib.Omega.{arith}
 use lib.Dec.{eqb}
 use lib.ListN.{length, take, drop, getD}
@@ -29,7 +29,8 @@ use Rattle.walker.specs.Begin.{refusedPlace, beginOf}
 use Rattle.walker.specs.Accepted.{begins}
 use Rattle.tally.specs.Tally.{returnBy, returnIn, countOf}
 use Rattle.returns.specs.declared.Mark.{Mark}
-use Rattle.returns.specs.Returns.{mark, markBy, markOf, oddIn, oddOf, valuesOf}
+use Rattle.returns.specs.declared.Survey.{Survey}
+use Rattle.returns.specs.Returns.{mark, markBy, markOf, oddIn, oddOf, valuesOf, countedOf, surveyAt}
 
 -- a return number has four bits at most
 number-fits : (x : Flags) → returnNumberOf x < 16
@@ -111,3 +112,20 @@ begun-end allowance s = go (checkedOf allowance s) refl
         let holds = accepted-holds allowance s e in
         rw (f, at, count, format-long allowance s holds) (holds .parts .points-within)
     go (checked.Refused r m n) e = rw e (omega arith)
+
+-- what a survey says of its points
+module _ (f : Format) (at n : ℕ) (s : List ℕ) where
+  abbrev v : Survey
+  v = surveyAt f at n s
+
+  pub survey-points : (v .format ≡ f) × (v .at ≡ at) × (v .count ≡ n)
+  unfolding surveyAt
+  survey-points = (refl, refl, refl)
+
+  pub survey-odd : v .returns .odd ≡ oddOf f n (drop at s)
+  unfolding surveyAt countedOf
+  survey-odd = refl
+
+  pub survey-number : (r : ℕ) → r < 16 → getD (v .returns .numbers) r 0 ≡ countOf f r n (drop at s)
+  unfolding surveyAt countedOf
+  survey-number r h = value-at (λ i. countOf f i n (drop at s)) 0 16 r h ∙ ap (λ (i : ℕ). countOf f i n (drop at s)) (zero-add r)
