@@ -1,7 +1,9 @@
 -- definitions
 pub mod Found
 pub mod Answer
+pub mod Broken
 -- laws
 pub mod Laws
 pub mod Inside
 pub mod Answered
+pub mod Exactly

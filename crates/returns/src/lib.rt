@@ -12,9 +12,9 @@ use point::marks::Marks;
 use point::marks::MarksRead;
 
 // A point's return number, and its number of returns.
-struct Mark {
-    number: u8,
-    of: u8,
+pub struct Mark {
+    pub number: u8,
+    pub of: u8,
 }
 
 // How many records have each return number, 0 to 15, and how many have 0 or one above their number of returns.
