@@ -24,6 +24,18 @@ abbrev pub Among : Finding → List Finding → Type 0
 Among f [] = ⊥
 Among f (g ∷ gs) = (f ≡ g) ⊎ Among f gs
 
+-- "in file order", "findings at the same place follow the order of this list"
+abbrev pub Before : Finding → Finding → Type 0
+Before f g = (f .at < g .at) ⊎ ((f .at ≡ g .at) × (f .rule < g .rule))
+
+abbrev pub BeforeAll : Finding → List Finding → Type 0
+BeforeAll f [] = Unit
+BeforeAll f (g ∷ gs) = Before f g × BeforeAll f gs
+
+abbrev pub InOrder : List Finding → Type 0
+InOrder [] = Unit
+InOrder (f ∷ fs) = BeforeAll f fs × InOrder fs
+
 -- the part p is entry number k of a table whose first entry has number j
 abbrev pub Entry : ℕ → List Part → ℕ → Part → Type 0
 Entry j [] k p = ⊥

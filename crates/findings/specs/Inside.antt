@@ -44,24 +44,24 @@ key f = 8 * f .at + f .rule
 -- each key lies above those before it, the first at or above one number, the last below another
 abbrev pub Rising : ℕ → ℕ → List Finding → Type 0
 Rising from to [] = from ≤ to
-Rising from to (f ∷ fs) = (from ≤ key f) × Rising (suc (key f)) to fs
+Rising from to (f ∷ fs) = (from ≤ key f) × (f .rule < 8) × Rising (suc (key f)) to fs
 
 rising-lower : (a b c : ℕ) (fs : List Finding) → a ≤ b → Rising b c fs → Rising a c fs
 rising-lower a b c [] h r = omega arith
-rising-lower a b c (f ∷ fs) h (k, r) = (omega arith, r)
+rising-lower a b c (f ∷ fs) h (k, small, r) = (omega arith, small, r)
 
 rising-upper : (a b c : ℕ) (fs : List Finding) → b ≤ c → Rising a b fs → Rising a c fs
 rising-upper a b c [] h r = omega arith
-rising-upper a b c (f ∷ fs) h (k, r) = (k, rising-upper (suc (key f)) b c fs h r)
+rising-upper a b c (f ∷ fs) h (k, small, r) = (k, small, rising-upper (suc (key f)) b c fs h r)
 
 rising-both : (a b c : ℕ) (fs gs : List Finding) → Rising a b fs → Rising b c gs → Rising a c (fs ++ gs)
 rising-both a b c [] gs h r = rising-lower a b c gs h r
-rising-both a b c (f ∷ fs) gs (k, h) r = (k, rising-both (suc (key f)) b c fs gs h r)
+rising-both a b c (f ∷ fs) gs (k, small, h) r = (k, small, rising-both (suc (key f)) b c fs gs h r)
 
-rising-when : {a c : ℕ} (b : Bool) (f : Finding) → a ≤ key f → key f < c → Rising a c (when b f)
+rising-when : {a c : ℕ} (b : Bool) (f : Finding) → f .rule < 8 → a ≤ key f → key f < c → Rising a c (when b f)
 unfolding when
-rising-when true f low high = (low, omega arith)
-rising-when false f low high = omega arith
+rising-when true f small low high = (low, small, omega arith)
+rising-when false f small low high = omega arith
 
 few-when : (b : Bool) (f : Finding) → length (when b f) ≤ 1
 unfolding when
@@ -91,16 +91,16 @@ inside-both {a} {b} {c} fs gs i j =
 inside-one : {a c : ℕ} (b : Bool) (rule part point at : ℕ) → rule < 8 → a ≤ at → at < c → Inside a c (when b (finding rule part point at))
 inside-one b rule part point at small low high =
     let f = finding rule part point at in
-    record { few = omega (arith, few-when b f); rising = rising-when b f (omega arith) (omega arith) }
+    record { few = omega (arith, few-when b f); rising = rising-when b f small (omega arith) (omega arith) }
 
 inside-two : {a c : ℕ} (b d : Bool) (rule other part at : ℕ) → rule < other → other < 8 → a ≤ at → at + 2 ≤ c → Inside a c (when b (spot rule part at) ++ when d (spot other part at))
 inside-two {a} {c} b d rule other part at less small low high =
     let f = spot rule part at in
     let g = spot other part at in
-    let split : Rising (8 * a) (8 * at + other) (when b f) = rising-when b f (omega arith) (omega arith) in
+    let split : Rising (8 * a) (8 * at + other) (when b f) = rising-when b f (omega arith) (omega arith) (omega arith) in
     record {
       few = omega (arith, few-when b f, few-when d g, length-append (when b f) (when d g));
-      rising = rising-both (8 * a) (8 * at + other) (8 * c) (when b f) (when d g) split (rising-when d g (omega arith) (omega arith));
+      rising = rising-both (8 * a) (8 * at + other) (8 * c) (when b f) (when d g) split (rising-when d g small (omega arith) (omega arith));
     }
 
 -- what a rule gives at places that lie m bytes apart

@@ -7,3 +7,7 @@ pub mod Laws
 pub mod Inside
 pub mod Answered
 pub mod Exactly
+pub mod Order
+pub mod Refused
+-- theorems
+pub mod Theorems
