@@ -605,34 +605,35 @@ void las_column_nir(const uint8_t *file, size_t file_len, uint64_t allowance, ui
 
 /* ---- findings ---- */
 
-/* What is wrong with a file that is accepted all the same, for whoever gets files from other programs: each counter, each text field and
- * each point that breaks a rule is one finding, and no other is told. They come in file order, and those of the same byte in the order
- * of the rules. */
+/* What is wrong with a file that is accepted all the same, for whoever gets files from other programs: each counter, each text
+ * field and each point that breaks a rule is one finding, and no other is told. They come in file order, and those of the same
+ * byte in the order of the rules. */
 
 /* The rules. */
 enum {
     LAS_RULE_LEGACY_NOT_ZERO = 1, /* in formats 6 to 10, one of the six legacy counters, at 107, 111 to 127, is not 0 */
     LAS_RULE_LEGACY_UNLIKE = 2,   /* in version 1.4, the legacy count of points, at 107, is neither 0 nor the large one, at 247 */
-    LAS_RULE_RETURNS_UNLIKE = 3,  /* a count by return is not the number of records that have that return: in version 1.4 one of the 15
-                                     large ones, at 255 to 367, in versions 1.0 to 1.3 one of the five at 111 to 127 */
+    LAS_RULE_RETURNS_UNLIKE = 3,  /* a count by return is not the number of records of that return: in version 1.4 one of the
+                                     15 large ones, at 255 to 367, in versions 1.0 to 1.3 one of the five at 111 to 127 */
     LAS_RULE_RETURN_NUMBER = 4,   /* a point's return number is 0, or above its number of returns */
-    LAS_RULE_TEXT = 5             /* a text field has a byte after its first zero that is not zero: system identifier or generating
-                                     software of the header; user id or description of a VLR, an EVLR or the waveform packets */
+    LAS_RULE_TEXT = 5             /* a text field has a byte after its first zero that is not zero: system identifier or
+                                     generating software of the header; user id or description of a VLR, an EVLR or the
+                                     waveform packets */
 };
 
 /* The places of a finding's numbers. */
 enum {
     LAS_FINDING_RULE = 0,  /* one of LAS_RULE_LEGACY_NOT_ZERO and so on */
-    LAS_FINDING_PART = 1,  /* the part where, as its number in the table of las_file_parts, the first being 1, gaps counted; the header is 1 */
+    LAS_FINDING_PART = 1,  /* its entry in the table of las_file_parts, the first, the header, being 1; gaps are entries too */
     LAS_FINDING_POINT = 2, /* the point, the first of the file being 1; 0 where it is none */
-    LAS_FINDING_AT = 3,    /* the first byte of the counter, the field or the point's record, counted from the start of the file */
+    LAS_FINDING_AT = 3,    /* the first byte of the counter, the field or the point's record, counted from 0 */
     LAS_FINDING_NUMBERS = 4
 };
 
-/* Every finding of the file, LAS_FINDING_NUMBERS numbers each, to the front of out, what lies past them staying; the value is how many
- * there are, 0 where nothing is wrong. Refuses as las_file_check does, then with LAS_REFUSED_NO_ROOM, and how many findings there are,
- * where out_len is less than LAS_FINDING_NUMBERS for each; and leaves out. Ask with an out_len of 0 for their number. The points are
- * looked at once, and once more where some of them are findings and there is room. */
+/* Every finding of the file, LAS_FINDING_NUMBERS numbers each, to the front of out, what lies past them staying; the value is how
+ * many there are, 0 where nothing is wrong. Refuses as las_file_check does, then with LAS_REFUSED_NO_ROOM, and how many findings
+ * there are, where out_len is less than LAS_FINDING_NUMBERS for each; and leaves out. An out_len of 0 asks for their number. The
+ * points are looked at once, and once more where some of them are findings and there is room. */
 void las_findings(const uint8_t *file, size_t file_len, uint64_t allowance, uint64_t *out, size_t out_len, uint64_t row[3]);
 
 /* ---- appending ---- */
