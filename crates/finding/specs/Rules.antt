@@ -2,7 +2,7 @@
 -- zero and unlike the large one [2]; counts by return unlike the records [3]; a return number of zero or above the number of returns [4]; text
 -- fields with bytes after their first zero that aren't zero [5]", "findings at the same place follow the order of this list".
 use Prim.Native.Nat.{ℕ, zero, suc, _+_, _*_}
-use mathlib.Core.Bool.{Bool, true, false, cond, not, _&&_}
+use mathlib.Core.Bool.{Bool, true, cond, not, _&&_}
 use mathlib.Core.List.{List, [], _∷_, _++_}
 use lib.Dec.{eqb}
 use lib.ListN.{take, drop, getD}

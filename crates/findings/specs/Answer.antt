@@ -1,16 +1,14 @@
 -- What is answered of a file's findings, and the buffer after it.
-use Prim.Native.Nat.{ℕ, _+_, _*_, _/_, _≤_, _<_}
+use Prim.Native.Nat.{ℕ, _+_, _*_, _/_, _≤_}
 use mathlib.Core.Path.{_≡_}
 use mathlib.Core.Bool.{cond}
 use mathlib.Core.List.{List, _++_}
 use lib.Dec.{ltb}
 use lib.ListN.{length, drop}
-use Rattle.refusal.specs.declared.Refusal.{Refusal}
 use Rattle.refusal.specs.declared.Refusal.the-variants.{NoRoom}
 use Rattle.rules.specs.declared.Checked.{Checked}
 use Rattle.rules.specs.declared.Checked.the-variants as checked
 use Rattle.file.specs.Rules.{checkedOf}
-use Rattle.format.specs.Fields.{recordBytes}
 use Rattle.cursor.specs.declared.Cursor.{Cursor}
 use Rattle.cursor.specs.Cursor.{leftOf}
 use Rattle.cursor.specs.Parts.{Covers}
@@ -35,8 +33,8 @@ findingsOf allowance s d = answerBy (checkedOf allowance s) (foundOf s) d
 
 -- What the private steps go by: the points of a survey end in the file, and are counted.
 pub record Surveyed (s : List ℕ) (v : Survey) : Type 0 where
-  pub within : v .at + v .count * recordBytes (v .format) ≤ length s
-  pub odd : v .returns .odd ≡ oddOf (v .format) (v .count) (drop (v .at) s)
+  pub within : v .at + v .count * v .each ≤ length s
+  pub odd : v .returns .odd ≡ oddOf (v .extended) (v .each) (v .count) (drop (v .at) s)
 
 -- A cursor at the first part of a file: its parts follow one another.
 pub record Begun (s : List ℕ) (v : Survey) (c : Cursor) : Type 0 where

@@ -1,22 +1,19 @@
 -- What is told into no room, and then into all, is what is promised.
 use Prim.Native.Nat.{ℕ, _+_, _*_, _/_, _≤_, _<_}
-use mathlib.Core.Path.{_≡_, refl, ap, sym, subst, _∙_}
-use mathlib.Core.Bool.{Bool, true, false, cond}
+use mathlib.Core.Path.{_≡_, ap, sym, subst, _∙_}
 use mathlib.Core.List.{List, [], _++_}
 use native.Mathlib.Nat.{zero-add}
 use native.Mathlib.Omega.{arith}
 use borrow.Author.Tests.{lt-ltb, le-ltb}
+use lib.Dec.{leb}
 use lib.ListN.{length, drop}
 use Rattle.refusal.specs.declared.Refusal.{Refusal}
 use Rattle.refusal.specs.declared.Refusal.the-variants.{NoRoom}
-use Rattle.format.specs.Fields.{recordBytes}
 use Rattle.rules.specs.declared.Checked.{Checked}
 use Rattle.rules.specs.declared.Checked.the-variants as checked
 use Rattle.file.specs.Rules.{checkedOf}
-use Rattle.file.specs.Points.{pointFormat, format-long}
 use Rattle.file.specs.Theorems.{accepted-holds}
 use Rattle.cursor.specs.declared.Cursor.{Cursor}
-use Rattle.cursor.specs.declared.Part.{Part}
 use Rattle.cursor.specs.declared.Started.the-variants as started
 use Rattle.cursor.specs.Cursor.{startedOf, leftOf}
 use Rattle.cursor.specs.Parts.{outlineIn, partsOf, Covers}
@@ -27,7 +24,6 @@ use Rattle.returns.specs.Returns.{surveyOf}
 use Rattle.returns.specs.Laws.{survey-points, survey-odd}
 use Rattle.finding.specs.declared.Finding.{Finding}
 use Rattle.finding.specs.Told.{allNumbers, told, plus-fits, told-nowhere, told-all}
-use Rattle.findings.specs.declared.Answer.{Answer}
 use Rattle.findings.specs.declared.Answer.the-variants.{Found, Refused}
 use Rattle.findings.specs.Found.{foundFrom, surveyIn, foundOf}
 use Rattle.findings.specs.Answer.{answerTo, answerBy, findingsOf, Surveyed, Begun}
@@ -38,11 +34,10 @@ use Rattle.findings.specs.Inside.{all-inside}
 surveyed : (allowance : ℕ) (s : List ℕ) {n : ℕ} → checkedOf allowance s ≡ checked.Accepted n → Surveyed s (surveyIn s)
 surveyed allowance s e =
     let o = outlineIn s in
-    let (f, at, count) = survey-points (pointFormat o) (o .«offset_to_point_data») (o .«number_of_point_records») s in
-    let holds = accepted-holds allowance s e in
+    let (extended, at, each, count) = survey-points (leb 6 (o .«point_data_record_format»)) (o .«offset_to_point_data») (o .«point_data_record_length») (o .«number_of_point_records») s in
     record {
-      within = rw (f, at, count, format-long allowance s holds) (holds .parts .points-within);
-      odd = rw (f, at, count) (survey-odd (pointFormat o) (o .«offset_to_point_data») (o .«number_of_point_records») s);
+      within = rw (at, each, count) (accepted-holds allowance s e .parts .points-within);
+      odd = rw (extended, at, each, count) (survey-odd (leb 6 (o .«point_data_record_format»)) (o .«offset_to_point_data») (o .«point_data_record_length») (o .«number_of_point_records») s);
     }
 
 module _ (allowance : ℕ) (s : List ℕ) where

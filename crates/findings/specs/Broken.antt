@@ -3,19 +3,18 @@ use Prim.Native.Nat.{ℕ, suc, _+_, _*_, _-_, _≤_, _<_}
 use mathlib.Core.Path.{_≡_}
 use mathlib.Core.Logic.{_⊎_}
 use mathlib.Core.List.{List, [], _∷_}
+use lib.Dec.{leb}
 use lib.ListN.{take, drop}
 use Rattle.le.specs.Le.{num}
 use Rattle.header.specs.Layout.{VersionMinor}
 use Rattle.header.specs.Header.{number}
-use Rattle.file.specs.Points.{pointFormat}
 use Rattle.cursor.specs.declared.Kind.{Kind}
 use Rattle.cursor.specs.declared.Kind.the-variants.{Header, Vlr, Gap, Points, Evlr, Waveform}
 use Rattle.cursor.specs.declared.Part.{Part}
 use Rattle.cursor.specs.Parts.{outlineIn, partsOf}
-use Rattle.tally.specs.Tally.{countOf}
 use Rattle.text_rest.specs.Theorems.{Untidy}
 use Rattle.returns.specs.declared.Mark.{Mark}
-use Rattle.returns.specs.Returns.{markOf}
+use Rattle.returns.specs.Returns.{markOf, haveOf}
 use Rattle.finding.specs.declared.Finding.{Finding}
 use Rattle.finding.specs.Rules.{finding}
 
@@ -50,16 +49,16 @@ TextField Points at w = ⊥
 TextField Evlr at w = ((at ≡ 2) × (w ≡ 16)) ⊎ ((at ≡ 28) × (w ≡ 32))
 TextField Waveform at w = ((at ≡ 2) × (w ≡ 16)) ⊎ ((at ≡ 28) × (w ≡ 32))
 
--- the first byte of point number p, counted from 1, and the return number and number of returns that are read there
+-- the first byte of point number p, counted from 1, and its return number and number of returns, by the format's code
 abbrev pub pointPlace : List ℕ → ℕ → ℕ
 pointPlace s p = let o = outlineIn s in o .«offset_to_point_data» + (p - 1) * o .«point_data_record_length»
 
 abbrev pub markAt : List ℕ → ℕ → Mark
-markAt s p = let o = outlineIn s in markOf (pointFormat o) (take (o .«point_data_record_length») (drop (pointPlace s p) s))
+markAt s p = let o = outlineIn s in markOf (leb 6 (o .«point_data_record_format»)) (take (o .«point_data_record_length») (drop (pointPlace s p) s))
 
 -- how many of the file's records have return number r
 abbrev pub haveReturn : List ℕ → ℕ → ℕ
-haveReturn s r = let o = outlineIn s in countOf (pointFormat o) r (o .«number_of_point_records») (drop (o .«offset_to_point_data») s)
+haveReturn s r = let o = outlineIn s in haveOf (leb 6 (o .«point_data_record_format»)) (o .«point_data_record_length») r (o .«number_of_point_records») (drop (o .«offset_to_point_data») s)
 
 -- The finding f says what is so of the file s.
 pub data Broken (s : List ℕ) (f : Finding) : Type 0 where

@@ -2,25 +2,18 @@
 use Prim.Native.Nat.{ℕ, zero, suc, _+_, _*_, _-_, _≤_, _<_}
 use mathlib.Core.Path.{_≡_, refl, ap, sym, subst, _∙_}
 use mathlib.Core.Logic.{_⊎_, inl, inr}
-use mathlib.Core.Bool.{Bool, true, false, cond, not, _&&_, _||_}
+use mathlib.Core.Bool.{Bool, true, false, cond, not, _||_}
 use mathlib.Core.List.{List, [], _∷_, _++_}
-use native.Mathlib.Nat.{add-suc, suc-add, zero-add}
 use native.Mathlib.Omega.{arith}
 use borrow.Author.Tests.{eq-eqb, ne-eqb, eqb-true, eqb-false, le-leb, leb-true, lt-ltb, ltb-true}
 use lib.Dec.{eqb, ltb, leb}
-use lib.ListN.{length, take, drop, getD}
+use lib.ListN.{take, drop, getD}
 use Rattle.le.specs.Le.{num}
-use Rattle.format.specs.declared.Format.{Format}
-use Rattle.format.specs.Fields.{recordBytes}
 use Rattle.header.specs.Layout.{VersionMinor}
 use Rattle.header.specs.Header.{number}
 use Rattle.outline.specs.declared.Outline.{Outline}
-use Rattle.extents.specs.Extents.{pointsEnd}
 use Rattle.rules.specs.declared.Checked.the-variants as checked
 use Rattle.file.specs.Rules.{checkedOf}
-use Rattle.file.specs.Points.{pointFormat, format-extended, format-long}
-use Rattle.file.specs.Holds.{Holds}
-use Rattle.file.specs.Theorems.{accepted-holds}
 use Rattle.cursor.specs.declared.Kind.{Kind}
 use Rattle.cursor.specs.declared.Kind.the-variants.{Header, Vlr, Gap, Points, Evlr, Waveform}
 use Rattle.cursor.specs.declared.Part.{Part}
@@ -174,9 +167,6 @@ module _ (allowance : ℕ) (s : List ℕ) {n : ℕ} (accepted : checkedOf allowa
   abbrev v : Survey
   v = surveyIn s
 
-  holds : Holds allowance s
-  holds = accepted-holds allowance s accepted
-
   -- the header is the first part, and no other
   only-header : (k : ℕ) (q : Part) → Entry 1 (partsOf o s) k q → q .kind ≡ Header → (k ≡ 1) × (q .start ≡ 0)
   only-header k q e is = go (subst (λ (ps : List Part). Entry 1 ps k q) (header-first o s) e)
@@ -191,20 +181,17 @@ module _ (allowance : ℕ) (s : List ℕ) {n : ℕ} (accepted : checkedOf allowa
       go (inr later) = absurd (each-entry (λ p. p .kind ≡ Header → ⊥) 2 (bodyOf o s) k q others later is)
 
   -- what the survey says
-  points : (v .format ≡ pointFormat o) × (v .at ≡ o .«offset_to_point_data») × (v .count ≡ o .«number_of_point_records»)
-  points = survey-points (pointFormat o) (o .«offset_to_point_data») (o .«number_of_point_records») s
+  points : (v .extended ≡ leb 6 (o .«point_data_record_format»)) × (v .at ≡ o .«offset_to_point_data») × (v .each ≡ o .«point_data_record_length») × (v .count ≡ o .«number_of_point_records»)
+  points = survey-points (leb 6 (o .«point_data_record_format»)) (o .«offset_to_point_data») (o .«point_data_record_length») (o .«number_of_point_records») s
 
   have : (r : ℕ) → r ≤ 15 → getD (v .returns .numbers) r 0 ≡ haveReturn s r
-  have r h = survey-number (pointFormat o) (o .«offset_to_point_data») (o .«number_of_point_records») s r (omega arith)
+  have r h = survey-number (leb 6 (o .«point_data_record_format»)) (o .«offset_to_point_data») (o .«point_data_record_length») (o .«number_of_point_records») s r (omega arith)
 
-  extended-is : v .format .«is_extended» ≡ leb 6 (o .«point_data_record_format»)
-  extended-is = ap (λ (x : Format). x .«is_extended») (points .0) ∙ format-extended allowance s holds
+  new-format : v .extended ≡ true → 6 ≤ o .«point_data_record_format»
+  new-format is = leb-true 6 (o .«point_data_record_format») (sym (points .0) ∙ is)
 
-  new-format : v .format .«is_extended» ≡ true → 6 ≤ o .«point_data_record_format»
-  new-format e = leb-true 6 (o .«point_data_record_format») (sym extended-is ∙ e)
-
-  format-new : 6 ≤ o .«point_data_record_format» → v .format .«is_extended» ≡ true
-  format-new h = extended-is ∙ le-leb 6 (o .«point_data_record_format») h
+  format-new : 6 ≤ o .«point_data_record_format» → v .extended ≡ true
+  format-new h = points .0 ∙ le-leb 6 (o .«point_data_record_format») h
 
   -- the version
   version-four : isLarge s ≡ true → number VersionMinor s ≡ 4
@@ -224,7 +211,7 @@ module _ (allowance : ℕ) (s : List ℕ) {n : ℕ} (accepted : checkedOf allowa
 
   -- the counters
   abbrev e : Bool
-  e = v .format .«is_extended»
+  e = v .extended
 
   abbrev numbers : List ℕ
   numbers = v .returns .numbers
@@ -278,23 +265,20 @@ module _ (allowance : ℕ) (s : List ℕ) {n : ℕ} (accepted : checkedOf allowa
       go false old a = absurd a
 
   -- the points
-  long : recordBytes (v .format) ≡ o .«point_data_record_length»
-  long = ap recordBytes (points .0) ∙ format-long allowance s holds
-
-  place-is : (j : ℕ) → v .at + j * recordBytes (v .format) ≡ pointPlace s (j + 1)
+  place-is : (j : ℕ) → v .at + j * v .each ≡ pointPlace s (j + 1)
   place-is j =
       let back : j ≡ j + 1 - 1 = omega arith in
-      λ i. points .1 i + back i * long i
+      λ i. points .1 i + back i * points .2 i
 
-  mark-is : (j : ℕ) → markOf (v .format) (take (recordBytes (v .format)) (drop (v .at + j * recordBytes (v .format)) s)) ≡ markAt s (j + 1)
-  mark-is j = λ i. markOf (points .0 i) (take (long i) (drop (place-is j i) s))
+  mark-is : (j : ℕ) → markOf (v .extended) (take (v .each) (drop (v .at + j * v .each) s)) ≡ markAt s (j + 1)
+  mark-is j = λ i. markOf (points .0 i) (take (points .2 i) (drop (place-is j i) s))
 
   from-points : (k : ℕ) (q : Part) → Entry 1 (partsOf o s) k q → q .kind ≡ Points → Among f (oddPoints s v k) → Broken s f
   unfolding oddPoints pointAt oddIn
   from-points k q entry kind a =
-      let (j, low, high, b) = among-through f (pointAt s (v .format) (v .at) k) 0 (v .count) a in
-      let (odd, is) = among-when f _ (finding 4 k (j + 1) (v .at + j * recordBytes (v .format))) b in
-      return-number k (j + 1) q entry kind (omega arith) (omega (arith, points .2)) (odd-says (markAt s (j + 1)) (sym (ap isOdd (mark-is j)) ∙ odd))
+      let (j, low, high, b) = among-through f (pointAt s (v .extended) (v .at) (v .each) k) 0 (v .count) a in
+      let (odd, is) = among-when f _ (finding 4 k (j + 1) (v .at + j * v .each)) b in
+      return-number k (j + 1) q entry kind (omega arith) (omega (arith, points .3)) (odd-says (markAt s (j + 1)) (sym (ap isOdd (mark-is j)) ∙ odd))
       (is ∙ ap (finding 4 k (j + 1)) (place-is j))
 
   -- any part
@@ -371,12 +355,12 @@ module _ (allowance : ℕ) (s : List ℕ) {n : ℕ} (accepted : checkedOf allowa
   broken-told (return-number k p q entry kind low high odd is) =
       let j = p - 1 in
       let back : j + 1 ≡ p = omega arith in
-      let at = v .at + j * recordBytes (v .format) in
+      let at = v .at + j * v .each in
       let place : at ≡ pointPlace s p = place-is j ∙ ap (pointPlace s) back in
-      let mark : markOf (v .format) (take (recordBytes (v .format)) (drop at s)) ≡ markAt s p = mark-is j ∙ ap (markAt s) back in
+      let mark : markOf (v .extended) (take (v .each) (drop at s)) ≡ markAt s p = mark-is j ∙ ap (markAt s) back in
       in-part k q entry
       (subst (λ (x : Kind). Among f (foundAs s v x k (q .start))) (sym kind)
-      (through-among f (pointAt s (v .format) (v .at) k) 0 (v .count) j (omega arith) (omega (arith, points .2))
+      (through-among f (pointAt s (v .extended) (v .at) (v .each) k) 0 (v .count) j (omega arith) (omega (arith, points .3))
       (when-among f _ (finding 4 k (j + 1) at) (ap isOdd mark ∙ says-odd (markAt s p) odd) (is ∙ (λ i. finding 4 k (sym back i) (sym place i))))))
   broken-told (text k at w q entry field untidy is) = in-part k q entry (go (q .kind) field)
     where

@@ -2,12 +2,10 @@
 -- zero and unlike the large one [2]; counts by return unlike the records [3]; a return number of zero or above the number of returns [4]; text
 -- fields with bytes after their first zero that aren't zero [5]", "findings at the same place follow the order of this list".
 use Prim.Native.Nat.{ℕ, zero, suc, _+_, _*_}
+use mathlib.Core.Bool.{Bool}
 use mathlib.Core.List.{List, [], _∷_, _++_}
+use lib.Dec.{leb}
 use lib.ListN.{take, drop}
-use Rattle.format.specs.declared.Format.{Format}
-use Rattle.format.specs.Fields.{recordBytes}
-use Rattle.outline.specs.declared.Outline.{Outline}
-use Rattle.file.specs.Points.{pointFormat}
 use Rattle.cursor.specs.declared.Kind.{Kind}
 use Rattle.cursor.specs.declared.Kind.the-variants.{Header, Vlr, Gap, Points, Evlr, Waveform}
 use Rattle.cursor.specs.declared.Part.{Part}
@@ -22,19 +20,19 @@ module _ (s : List ℕ) where
   unfoldable pub textsAt : ℕ → ℕ → ℕ → ℕ → ℕ → List Finding
   textsAt part start first width second = textAt s part (start + first) width ++ textAt s part (start + second) 32
 
-  -- Rule 4: the points of a format from this byte on.
-  unfoldable pub pointAt : Format → ℕ → ℕ → ℕ → List Finding
-  pointAt f first part i =
-      let at = first + i * recordBytes f in
-      when (oddIn f (take (recordBytes f) (drop at s))) (finding 4 part (i + 1) at)
+  -- Rule 4: the points, records of m bytes from this byte on.
+  unfoldable pub pointAt : Bool → ℕ → ℕ → ℕ → ℕ → List Finding
+  pointAt extended first m part i =
+      let at = first + i * m in
+      when (oddIn extended (take m (drop at s))) (finding 4 part (i + 1) at)
 
   module _ (v : Survey) where
     unfoldable pub oddPoints : ℕ → List Finding
-    oddPoints part = through (pointAt (v .format) (v .at) part) 0 (v .count)
+    oddPoints part = through (pointAt (v .extended) (v .at) (v .each) part) 0 (v .count)
 
     -- those of a part of a kind, which is an entry of the part table
     abbrev pub foundAs : Kind → ℕ → ℕ → List Finding
-    foundAs Header part start = textsAt part start 26 32 58 ++ counters s (v .format .«is_extended») (v .returns .numbers) part
+    foundAs Header part start = textsAt part start 26 32 58 ++ counters s (v .extended) (v .returns .numbers) part
     foundAs Vlr part start = textsAt part start 2 16 22
     foundAs Gap part start = []
     foundAs Points part start = oddPoints part
@@ -49,9 +47,11 @@ module _ (s : List ℕ) where
     foundFrom part [] = []
     foundFrom part (p ∷ ps) = foundIn part p ++ foundFrom (suc part) ps
 
--- the points of a file, and their return numbers
+-- the points of a file, of format 6 to 10 or of 0 to 5, and their return numbers
 abbrev pub surveyIn : List ℕ → Survey
-surveyIn s = let o = outlineIn s in surveyAt (pointFormat o) (o .«offset_to_point_data») (o .«number_of_point_records») s
+surveyIn s =
+    let o = outlineIn s in
+    surveyAt (leb 6 (o .«point_data_record_format»)) (o .«offset_to_point_data») (o .«point_data_record_length») (o .«number_of_point_records») s
 
 -- All findings of the file s.
 unfoldable pub foundOf : List ℕ → List Finding

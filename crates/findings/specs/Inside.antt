@@ -1,17 +1,14 @@
 -- The findings of a part lie in it, ascending by byte and rule, and are no more than its bytes; so do those of all parts in the file.
 use Prim.Native.Nat.{ℕ, zero, suc, _+_, _*_, _-_, _≤_, _<_}
-use mathlib.Core.Path.{_≡_, refl, ap, sym, subst, _∙_}
+use mathlib.Core.Path.{_≡_, refl, ap, sym, subst}
 use mathlib.Core.Bool.{Bool, true, false, cond}
 use mathlib.Core.List.{List, [], _∷_, _++_}
 use native.Mathlib.Nat.{suc-mul, zero-mul, add-suc, suc-add, zero-add}
 use native.Mathlib.Omega.{arith}
-use borrow.Author.Tests.{eqb-true, eqb-false}
-use lib.Dec.{eqb}
+use borrow.Author.Tests.{eqb-true}
+use lib.Dec.{eqb, leb}
 use lib.ListN.{length, length-append}
 use Rattle.le.specs.Le.{num}
-use Rattle.format.specs.declared.Format.{Format}
-use Rattle.format.specs.Fields.{recordBytes}
-use Rattle.format.specs.Laws.{record-sum}
 use Rattle.vlr.specs.Vlr.{recordSize}
 use Rattle.vlr.specs.Laws.{record-least}
 use Rattle.header.specs.Laws.{size-least}
@@ -20,14 +17,13 @@ use Rattle.header.specs.Header.{number}
 use Rattle.outline.specs.declared.Outline.{Outline}
 use Rattle.extents.specs.Extents.{pointsEnd}
 use Rattle.rules.specs.declared.Checked.the-variants as checked
+use Rattle.rules.specs.Laws.{format-bytes}
 use Rattle.file.specs.Rules.{checkedOf}
-use Rattle.file.specs.Points.{pointFormat, format-long}
 use Rattle.file.specs.Holds.{standardIn, Holds}
 use Rattle.file.specs.Theorems.{accepted-holds}
-use Rattle.cursor.specs.declared.Kind.{Kind}
 use Rattle.cursor.specs.declared.Kind.the-variants.{Header, Vlr, Gap, Points, Evlr, Waveform}
 use Rattle.cursor.specs.declared.Part.{Part}
-use Rattle.cursor.specs.Parts.{part, between, outlineIn, bodyOf, partsOf, Covers, Each}
+use Rattle.cursor.specs.Parts.{part, between, outlineIn, partsOf, Covers, Each}
 use Rattle.cursor.specs.Accepted.{laid}
 use Rattle.cursor.specs.Each.{header-first, each-part}
 use Rattle.cursor.specs.Theorems.{cover}
@@ -135,15 +131,14 @@ module _ (s : List ℕ) where
   larges-inside numbers part =
       inside-through (largeAt s numbers part) 247 8 (λ i. inside-one _ 3 part 0 (247 + 8 * i) (omega arith) (omega arith) (omega (arith, suc-mul i 8))) 1 15
 
-  points-inside : (f : Format) (at part count : ℕ) → Inside at (at + count * recordBytes f) (through (pointAt s f at part) 0 count)
+  points-inside : (e : Bool) (at m part count : ℕ) → 0 < m → Inside at (at + count * m) (through (pointAt s e at m part) 0 count)
   unfolding pointAt
-  points-inside f at part count =
-      let m = recordBytes f in
+  points-inside e at m part count some =
       let from : at + 0 * m ≡ at = omega (arith, zero-mul m) in
       let to : at + (0 + count) * m ≡ at + count * m = ap (λ (k : ℕ). at + k * m) (omega arith) in
-      subst (λ (a : ℕ). Inside a (at + count * m) (through (pointAt s f at part) 0 count)) from
-      (subst (λ (c : ℕ). Inside (at + 0 * m) c (through (pointAt s f at part) 0 count)) to
-      (inside-through (pointAt s f at part) at m (λ i. inside-one _ 4 part (i + 1) (at + i * m) (omega arith) (omega arith) (omega (arith, suc-mul i m, record-sum f))) 0 count))
+      subst (λ (a : ℕ). Inside a (at + count * m) (through (pointAt s e at m part) 0 count)) from
+      (subst (λ (c : ℕ). Inside (at + 0 * m) c (through (pointAt s e at m part) 0 count)) to
+      (inside-through (pointAt s e at m part) at m (λ i. inside-one _ 4 part (i + 1) (at + i * m) (omega arith) (omega arith) (omega (arith, suc-mul i m))) 0 count))
 
 -- of a file that is accepted, in any part of its table
 module _ (allowance : ℕ) (s : List ℕ) {n : ℕ} (accepted : checkedOf allowance s ≡ checked.Accepted n) where
@@ -176,7 +171,7 @@ module _ (allowance : ℕ) (s : List ℕ) {n : ℕ} (accepted : checkedOf allowa
   header-in k =
       rw zero-add
       (inside-both (textsAt s k 0 26 32 58) _ (texts-inside s k 0 26 32 58 (omega arith) (omega arith) (omega arith))
-      (counters-inside (v .format .«is_extended») (v .returns .numbers) k))
+      (counters-inside (v .extended) (v .returns .numbers) k))
 
   vlr-in : (at to : ℕ) → recordSize false (between at to s) ≤ length (between at to s) → In (part Vlr at (recordSize false (between at to s)))
   unfolding foundIn
@@ -197,10 +192,11 @@ module _ (allowance : ℕ) (s : List ℕ) {n : ℕ} (accepted : checkedOf allowa
   points-in : In (part Points (o .«offset_to_point_data») (pointsEnd o - o .«offset_to_point_data»))
   unfolding foundIn oddPoints
   points-in k =
-      let (f, at, count) = survey-points (pointFormat o) (o .«offset_to_point_data») (o .«number_of_point_records») s in
-      let long : recordBytes (pointFormat o) ≡ o .«point_data_record_length» = format-long allowance s holds in
+      let code = o .«point_data_record_format» in
+      let (extended, at, each, count) = survey-points (leb 6 code) (o .«offset_to_point_data») (o .«point_data_record_length») (o .«number_of_point_records») s in
+      let some : 0 < o .«point_data_record_length» = omega (arith, format-bytes code .0, holds .parts .record-length) in
       let to : pointsEnd o ≡ o .«offset_to_point_data» + (pointsEnd o - o .«offset_to_point_data») = omega arith in
-      rw (f, at, count) (rw (long, to) at (points-inside s (pointFormat o) (o .«offset_to_point_data») k (o .«number_of_point_records»)))
+      rw (extended, at, each, count) (rw to at (points-inside s (leb 6 code) (o .«offset_to_point_data») (o .«point_data_record_length») k (o .«number_of_point_records») some))
 
   parts-in : Each In (partsOf o s)
   parts-in =

@@ -2,17 +2,18 @@
 use Prim.Native.Nat.{ℕ, zero, suc, _+_, _*_, _-_, _≤_, _<_}
 use mathlib.Core.Path.{_≡_, refl, ap, sym, subst, _∙_}
 use mathlib.Core.Bool.{Bool, true, false, cond}
-use mathlib.Core.List.{List, [], _∷_, _++_}
-use native.Mathlib.Nat.{suc-mul, zero-mul, add-zero, mul-le-mul-right}
+use mathlib.Core.List.{List, [], _∷_}
+use native.Mathlib.Nat.{suc-mul, zero-mul, mul-le-mul-right}
 use native.Mathlib.Numerals.{add-one}
 use native.Mathlib.Omega.{arith}
 use lib.ListN.{length, take, drop, length-append}
 use lib.Seq.{drop-drop}
 use Rattle.format.specs.declared.Format.{Format}
 use Rattle.format.specs.Fields.{recordBytes}
-use Rattle.rules.specs.declared.Checked.{Checked}
 use Rattle.rules.specs.declared.Checked.the-variants as checked
 use Rattle.file.specs.Rules.{checkedOf}
+use Rattle.file.specs.Points.{format-extended, format-long}
+use Rattle.file.specs.Theorems.{accepted-holds}
 use Rattle.cursor.specs.declared.Part.{Part}
 use Rattle.cursor.specs.declared.Cursor.{Cursor}
 use Rattle.cursor.specs.declared.Step.{Step}
@@ -20,7 +21,6 @@ use Rattle.cursor.specs.Parts.{Covers}
 use Rattle.cursor.specs.Cursor.{stepOf, leftOf}
 use Rattle.cursor.specs.Laws.{has-part, has-none}
 use Rattle.cursor.specs.Covers.{covers-up}
-use Rattle.walker.specs.Begin.{beginOf}
 use Rattle.walker.specs.Accepted.{begins}
 use Rattle.returns.specs.declared.Survey.{Survey}
 use Rattle.returns.specs.Returns.{oddIn, oddOf, surveyAt, surveyOf}
@@ -34,28 +34,27 @@ unfolding when
 length-when true f = refl
 length-when false f = refl
 
-module _ (s : List ℕ) (f : Format) (first part : ℕ) where
+module _ (s : List ℕ) (e : Bool) (first m part : ℕ) where
   -- as many points are findings as are odd
-  pub odd-length : (i n : ℕ) → length (through (pointAt s f first part) i n) ≡ oddOf f n (drop (first + i * recordBytes f) s)
+  odd-length : (i n : ℕ) → length (through (pointAt s e first m part) i n) ≡ oddOf e m n (drop (first + i * m) s)
   unfolding through pointAt oddOf
   odd-length i zero = refl
   odd-length i (suc n) =
-      let m = recordBytes f in
       let next : first + i * m + m ≡ first + suc i * m = omega (arith, suc-mul i m) in
-      let here = oddIn f (take m (drop (first + i * m) s)) in
+      let here = oddIn e (take m (drop (first + i * m) s)) in
       rw (length-append, length-when here, odd-length (suc i) n, drop-drop m (first + i * m) s, next)
 
-  pub odd-all : (n : ℕ) → length (through (pointAt s f first part) 0 n) ≡ oddOf f n (drop first s)
+  pub odd-all : (n : ℕ) → length (through (pointAt s e first m part) 0 n) ≡ oddOf e m n (drop first s)
   odd-all n =
-      let e : first + 0 * recordBytes f ≡ first = omega (arith, zero-mul (recordBytes f)) in
-      odd-length 0 n ∙ rw e
+      let from : first + 0 * m ≡ first = omega (arith, zero-mul m) in
+      odd-length 0 n ∙ rw from
 
   -- the record at its place
-  pub point-told : (m i at : ℕ) {b : Bool} → m ≡ recordBytes f → at ≡ first + i * m → b ≡ oddIn f (take (at + m - at) (drop at s)) → when b (finding 4 part (i + 1) at) ≡ pointAt s f first part i
+  pub point-told : (i at : ℕ) {b : Bool} → at ≡ first + i * m → b ≡ oddIn e (take (at + m - at) (drop at s)) → when b (finding 4 part (i + 1) at) ≡ pointAt s e first m part i
   unfolding pointAt
-  point-told m i at long place is =
+  point-told i at place is =
       let cut : at + m - at ≡ m = omega arith in
-      rw (is, cut, place, long)
+      rw (is, cut, place)
 
 -- a record of a run ends in the file
 pub ends : (first count m i : ℕ) {l : ℕ} → first + count * m ≤ l → i < count → first + i * m + m ≤ l
@@ -71,7 +70,12 @@ told-empty (f ∷ fs) w e = absurd (omega arith)
 -- of an accepted file the survey is what the header says
 pub survey-is : (allowance : ℕ) (s : List ℕ) {n : ℕ} → checkedOf allowance s ≡ checked.Accepted n → surveyOf allowance s ≡ surveyIn s
 unfolding surveyOf
-survey-is allowance s e = let (f, at, count, is) = begins allowance s e in λ i. surveyAt (f i) (at i) (count i) s
+survey-is allowance s e =
+    let (f, at, count, is) = begins allowance s e in
+    let holds = accepted-holds allowance s e in
+    let extended = ap (λ (x : Format). x .«is_extended») f ∙ format-extended allowance s holds in
+    let long = ap recordBytes f ∙ format-long allowance s holds in
+    λ i. surveyAt (extended i) (at i) (long i) (count i) s
 
 -- before a step of the cursor: the parts that are left follow one another, and what they add to what is told makes the whole
 pub record Driving (s : List ℕ) (v : Survey) (c₀ : Cursor) (d₀ : List ℕ) (n : ℕ) (d : List ℕ) (number : ℕ) (c : Cursor) : Type 0 where

@@ -1,8 +1,8 @@
 -- When the findings are told and when they are refused, by the file check and the room.
 use Prim.Native.Nat.{ℕ, _*_, _/_, _≤_, _<_}
-use mathlib.Core.Path.{_≡_, refl, ap, sym, _∙_}
+use mathlib.Core.Path.{_≡_, refl, ap, _∙_}
 use mathlib.Core.Logic.{_↔_, _⊎_, inl, inr}
-use mathlib.Core.Bool.{Bool, true, false, cond}
+use mathlib.Core.Bool.{Bool, true, false}
 use mathlib.Core.List.{List, _++_}
 use native.Mathlib.Omega.{arith}
 use borrow.Author.Tests.{lt-ltb, le-ltb, ltb-true, ltb-false}
@@ -13,12 +13,11 @@ use Rattle.refusal.specs.declared.Refusal.the-variants.{NoRoom}
 use Rattle.rules.specs.declared.Checked.{Checked}
 use Rattle.rules.specs.declared.Checked.the-variants as checked
 use Rattle.file.specs.Rules.{checkedOf}
-use Rattle.finding.specs.declared.Finding.{Finding}
 use Rattle.finding.specs.Told.{allNumbers}
 use Rattle.findings.specs.declared.Answer.{Answer}
 use Rattle.findings.specs.declared.Answer.the-variants.{Found, Refused}
 use Rattle.findings.specs.Found.{foundOf}
-use Rattle.findings.specs.Answer.{answerTo, answerBy, findingsOf}
+use Rattle.findings.specs.Answer.{findingsOf}
 
 module _ (allowance : ℕ) (s : List ℕ) {n : ℕ} (accepted : checkedOf allowance s ≡ checked.Accepted n) where
   pub with-room : (d : List ℕ) → length (foundOf s) * 4 ≤ length d → findingsOf allowance s d ≡ (Found (length (foundOf s)), allNumbers (foundOf s) ++ drop (length (foundOf s) * 4) d)

@@ -11,7 +11,6 @@ use Rattle.rules.specs.declared.Checked.the-variants as checked
 use Rattle.file.specs.Rules.{checkedOf}
 use Rattle.finding.specs.declared.Finding.{Finding}
 use Rattle.finding.specs.Told.{allNumbers}
-use Rattle.findings.specs.declared.Answer.{Answer}
 use Rattle.findings.specs.declared.Answer.the-variants.{Found, Refused}
 use Rattle.findings.specs.Found.{foundOf}
 use Rattle.findings.specs.Answer.{findingsOf}

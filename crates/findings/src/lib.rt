@@ -3,7 +3,6 @@
 ghost use mathlib.Core.Path.{_≡_};
 ghost use Prim.Native.Nat.{_+_, _*_, _≤_};
 ghost use lib.ListN.{length};
-ghost use Rattle.format.specs.Fields.{recordBytes};
 ghost use Rattle.cursor.specs.Cursor.{leftOf};
 ghost use Rattle.finding.specs.Told.{told};
 ghost use Rattle.finding.specs.Rules.{through};
@@ -14,8 +13,6 @@ use cursor::Kind;
 use cursor::Part;
 use cursor::Started;
 use finding::Finding;
-use format::Format;
-use layout::Layout;
 use refusal::Refusal;
 use returns::Survey;
 
@@ -76,11 +73,10 @@ fn tell_part(file: &[u8], survey: Survey, number: u64, part: Part, out: &mut [u6
     let start = part.start;
     match kind {
         Kind::Header => {
-            let format = survey.format;
             let returns = survey.returns;
             let numbers = returns.numbers;
             let n = tell_texts(file, number, start, 26, 32, 58, out, n);
-            finding::tell_counters(file, format.is_extended, &numbers, number, out, n)
+            finding::tell_counters(file, survey.extended, &numbers, number, out, n)
         }
         Kind::Vlr => tell_texts(file, number, start, 2, 16, 22, out, n),
         Kind::Gap => n,
@@ -120,15 +116,22 @@ fn tell_points(file: &[u8], survey: Survey, number: u64, out: &mut [u64], n: u64
     if returns.odd == 0 {
         return n;
     }
-    let format = survey.format;
-    let each = Layout::for_format(format).record_len;
-    tell_odd(file, format, each, survey.at, survey.count, number, out, n)
+    tell_odd(
+        file,
+        survey.extended,
+        survey.each,
+        survey.at,
+        survey.count,
+        number,
+        out,
+        n,
+    )
 }
 
 // Each of these points whose return number cannot be.
 fn tell_odd(
     file: &[u8],
-    format: Format,
+    extended: bool,
     each: usize,
     first: usize,
     count: u64,
@@ -136,14 +139,14 @@ fn tell_odd(
     out: &mut [u64],
     n: u64,
 ) -> u64
-    requires { ⌜ (each ≡ recordBytes format) × (first + count * each ≤ length (now file)) ⌝ }
-    ensures { λ r. ⌜ (r, now (out .exit)) ≡ told (through (pointAt (now (file .entry)) format first number) 0 count) (n, now (out .entry)) ⌝ }
+    requires { ⌜ first + count * each ≤ length (now file) ⌝ }
+    ensures { λ r. ⌜ (r, now (out .exit)) ≡ told (through (pointAt (now (file .entry)) extended first each number) 0 count) (n, now (out .entry)) ⌝ }
 {
     let mut n = n;
     let mut at = first;
     let mut i = 0;
     while i < count {
-        let odd = returns::is_odd_in(&file[at..at + each], format);
+        let odd = returns::is_odd_in(&file[at..at + each], extended);
         n = finding::tell_if(
             odd,
             Finding {

@@ -2,3 +2,5 @@
 pub mod Returns
 -- laws
 pub mod Laws
+-- theorems
+pub mod Theorems

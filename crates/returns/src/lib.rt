@@ -2,14 +2,9 @@
 ghost use mathlib.Core.Path.{_≡_};
 ghost use mathlib.Core.Bool.{cond};
 ghost use Prim.Native.Nat.{_*_, _≤_};
-ghost use lib.ListN.{length, drop};
-ghost use Rattle.format.specs.Fields.{recordBytes};
-ghost use Rattle.walker.specs.Begin.{beginOf};
+ghost use lib.ListN.{length};
 ghost use Rattle.returns.specs.Returns.{markOf, isOdd, oddIn, countedOf, surveyOf};
-use format::Format;
 use layout::Layout;
-use point::marks::Marks;
-use point::marks::MarksRead;
 
 // A point's return number, and its number of returns.
 pub struct Mark {
@@ -23,11 +18,12 @@ pub struct Counted {
     pub odd: u64,
 }
 
-// The points of a file: their format, whose record length is the header's, the first byte of the first, how many there are, and their
+// The points of a file: whether their format is of 6 to 10, the first byte of the first, the record length, how many there are, and their
 // return numbers.
 pub struct Survey {
-    pub format: Format,
+    pub extended: bool,
     pub at: usize,
+    pub each: usize,
     pub count: u64,
     pub returns: Counted,
 }
@@ -40,33 +36,34 @@ pub fn survey_of(file: &[u8], allowance: u64) -> Survey
     let format = begun.format;
     let at = begun.at;
     let each = Layout::for_format(format).record_len;
-    let returns = count_all(&file[at..], format, each, begun.count as usize);
+    let returns = count_all(&file[at..], format.is_extended, each, begun.count as usize);
     Survey {
-        format,
+        extended: format.is_extended,
         at,
+        each,
         count: begun.count,
         returns,
     }
 }
 
 // Whether the point in a record has return number 0, or one above its number of returns.
-pub fn is_odd_in(record: &[u8], format: Format) -> bool
-    ensures { λ r. ⌜ r ≡ oddIn format (now («record» .entry)) ⌝ }
+pub fn is_odd_in(record: &[u8], extended: bool) -> bool
+    ensures { λ r. ⌜ r ≡ oddIn extended (now («record» .entry)) ⌝ }
 {
-    is_odd(mark_in(record, format))
+    is_odd(mark_in(record, extended))
 }
 
 // n records of m bytes, all of them there.
-fn count_all(records: &[u8], format: Format, m: usize, n: usize) -> Counted
-    requires { ⌜ (m ≡ recordBytes format) × (n * m ≤ length (now records)) ⌝ }
-    ensures { λ r. ⌜ r ≡ countedOf format n (now (records .entry)) ⌝ }
+fn count_all(records: &[u8], extended: bool, m: usize, n: usize) -> Counted
+    requires { ⌜ n * m ≤ length (now records) ⌝ }
+    ensures { λ r. ⌜ r ≡ countedOf extended m n (now (records .entry)) ⌝ }
 {
     let mut numbers = [0; 16];
     let mut odd = 0;
     let mut at = 0;
     let mut left = n;
     while 0 < left {
-        let mark = mark_in(&records[at..at + m], format);
+        let mark = mark_in(&records[at..at + m], extended);
         let i = mark.number as usize;
         numbers[i] += 1;
         odd += one_if(is_odd(mark));
@@ -76,17 +73,20 @@ fn count_all(records: &[u8], format: Format, m: usize, n: usize) -> Counted
     Counted { numbers, odd }
 }
 
-// The return numbers of the point in a record; zeros where there is no point.
-fn mark_in(record: &[u8], format: Format) -> Mark
-    ensures { λ r. ⌜ r ≡ markOf format (now («record» .entry)) ⌝ }
+// The return number and the number of returns of the point in a record: the standard has both in its byte 14.
+fn mark_in(record: &[u8], extended: bool) -> Mark
+    ensures { λ r. ⌜ r ≡ markOf extended (now («record» .entry)) ⌝ }
 {
-    let MarksRead::Is(marks) = Marks::read_from(record, format) else {
-        return Mark { number: 0, of: 0 };
-    };
-    let flags = marks.flags;
+    let byte = le::u8_at(record, 14);
+    if extended {
+        return Mark {
+            number: byte % 16,
+            of: byte / 16 % 16,
+        };
+    }
     Mark {
-        number: flags.return_number(),
-        of: flags.number_of_returns(),
+        number: byte % 8,
+        of: byte / 8 % 8,
     }
 }
 

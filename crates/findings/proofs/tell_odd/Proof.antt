@@ -13,10 +13,10 @@ use Rattle.findings.proofs.tell_odd.Statement.{statement}
 use Rattle.findings.proofs.tell_odd.Tie as tie
 
 abbrev Inv-loop : tie.InvT-loop
-Inv-loop file format each first count number out₀ n n₀ at₀ i₀ out n' at i = Telling (pointAt file format first number) 0 count n out₀ n' out i × (at ≡ first + i * each)
+Inv-loop file extended each first count number out₀ n n₀ at₀ i₀ out n' at i = Telling (pointAt file extended first each number) 0 count n out₀ n' out i × (at ≡ first + i * each)
 
 abbrev μ-loop : tie.MeasureT-loop
-μ-loop file format each first count number out₀ n n₀ at₀ i₀ out n' at i = count - i
+μ-loop file extended each first count number out₀ n n₀ at₀ i₀ out n' at i = count - i
 
 loop-holds : tie.Need-loop-holds Inv-loop μ-loop
 loop-holds c = (telling _ 0 _ _ _, omega (arith, zero-mul (c .before .before .args .each)))
@@ -25,7 +25,7 @@ loop-holds c = (telling _ 0 _ _ _, omega (arith, zero-mul (c .before .before .ar
 ahead : (c : tie.In-loop Inv-loop μ-loop) → (let a = c .before .before .before .before .args in c .before .loop .at + a .each ≤ length (a .file .now))
 ahead c =
     let s = c .before .before .before .before in
-    omega (arith, c .before .loop .inv .1, ends (s .args .first) (s .args .count) (s .args .each) (c .before .loop .i) (s .pre .1) (c .loop-test .taken))
+    omega (arith, c .before .loop .inv .1, ends (s .args .first) (s .args .count) (s .args .each) (c .before .loop .i) (s .pre) (c .loop-test .taken))
 
 loop-again : tie.Need-loop-again Inv-loop μ-loop
 loop-again c =
@@ -35,7 +35,7 @@ loop-again c =
     let l = turn .before .loop in
     let s = turn .before .before .before .before in
     let a = s .args in
-    let is = point-told (a .file .now) (a .format) (a .first) (a .number) (a .each) (l .i) (l .at) (s .pre .0) (l .inv .1) (odd .is-odd-in .ensures) in (
+    let is = point-told (a .file .now) (a .extended) (a .first) (a .each) (a .number) (l .i) (l .at) (l .inv .1) (odd .is-odd-in .ensures) in (
       told-next _ 0 _ _ _ (l .inv .0) (omega (arith, turn .loop-test .taken)) (t .tell-if .ensures ∙ ap (λ (fs : List Finding). told fs (l .n, l .out)) is),
       omega (arith, l .inv .1, add-mul (l .i) 1 (a .each)),
     )

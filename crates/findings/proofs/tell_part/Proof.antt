@@ -11,10 +11,10 @@ unfolding foundIn
 returns c =
     let k = c .before .before in
     let t = k .before .before .before .before .before in
-    let e = t .before .before .before .before .before in
+    let e = t .before .before .before .before in
     let a = e .before .before .before .before .args in
     rw (e .enum-told .given .1)
-    (both (textsAt (a .file .now) (a .number) (a .part .start) 26 32 58) (counters (a .file .now) (a .survey .format .«is_extended») (a .survey .returns .numbers) (a .number)) (a .n) (a .out .now) (t .tell-texts .ensures) (k .tell-counters .ensures))
+    (both (textsAt (a .file .now) (a .number) (a .part .start) 26 32 58) (counters (a .file .now) (a .survey .extended) (a .survey .returns .numbers) (a .number)) (a .n) (a .out .now) (t .tell-texts .ensures) (k .tell-counters .ensures))
 
 returns-2 : tie.Need-returns-2
 unfolding foundIn

@@ -3,7 +3,6 @@ use mathlib.Core.Path.{_≡_, ap, sym, _∙_}
 use native.Mathlib.Omega.{arith}
 use borrow.Author.Needs.{needs}
 use lib.ListN.{length}
-use Rattle.layout.specs.Placed.{laid}
 use Rattle.finding.specs.Told.{plus, told-nowhere}
 use Rattle.findings.specs.Found.{oddPoints}
 use Rattle.findings.specs.Laws.{odd-all, told-empty}
@@ -15,7 +14,7 @@ counted : (x : tie.Start) → length (oddPoints (x .args .file .now) (x .args .s
 unfolding oddPoints
 counted x =
     let v = x .args .survey in
-    odd-all (x .args .file .now) (v .format) (v .at) (x .args .number) (v .count) ∙ sym (x .pre .odd)
+    odd-all (x .args .file .now) (v .extended) (v .at) (v .each) (x .args .number) (v .count) ∙ sym (x .pre .odd)
 
 returns : tie.Need-returns
 returns c =
@@ -30,13 +29,6 @@ returns-2 c =
     let a = x .args in
     sym (told-empty (oddPoints (a .file .now) (a .survey) (a .number)) (a .n, a .out .now) (counted x ∙ c .if2 .taken))
 
-tell-odd-requires : tie.Need-tell-odd-requires
-tell-odd-requires c κs =
-    let f = c .before in
-    let x = f .before .before .before .before .before .before .before .before in
-    let long = laid (x .args .survey .format) (f .for-format .ensures) .long in
-    (long, rw long (x .pre .within))
-
 returns-3 : tie.Need-returns-3
 unfolding oddPoints
 returns-3 c = c .before .before .tell-odd .ensures
@@ -45,4 +37,4 @@ pub tell-points-spec : {M : Type 1} → statement M
 tell-points-spec =
     tie.close
     (tie.spec
-    (λ c κs. search needs) returns returns-2 (λ c κs. search needs) tell-odd-requires (λ c. search needs) returns-3)
+    (λ c κs. search needs) returns returns-2 (λ c κs. search needs) (λ c. search needs) returns-3)

@@ -13,16 +13,16 @@ use Rattle.returns.proofs.count_all.Statement.{statement}
 use Rattle.returns.proofs.count_all.Tie as tie
 
 abbrev Inv-loop : tie.InvT-loop
-Inv-loop records format m n numbers₀ odd₀ at₀ left₀ numbers odd at left = Counting format m n records numbers odd at left
+Inv-loop records extended m n numbers₀ odd₀ at₀ left₀ numbers odd at left = Counting extended m n records numbers odd at left
 
 abbrev μ-loop : tie.MeasureT-loop
-μ-loop records format m n numbers₀ odd₀ at₀ left₀ numbers odd at left = left
+μ-loop records extended m n numbers₀ odd₀ at₀ left₀ numbers odd at left = left
 
 loop-holds : tie.Need-loop-holds Inv-loop μ-loop
 loop-holds c =
     record {
       below = omega arith;
-      ahead = omega (arith, c .before .pre .1);
+      ahead = omega (arith, c .before .pre);
       sized = refl;
       each = λ r h. rw (getD-replicate {A = ℕ} 16 r 0 0 h) (zero-add _);
       odds = zero-add _;
@@ -43,20 +43,20 @@ module _ (x : tie.After-mark-in Inv-loop μ-loop) where
   more = x .before .before .loop-test .taken
 
   low : x .mark-in .result .number < 16
-  low = small (begun .pre .0) (at .loop .inv) more (x .mark-in .result) (x .mark-in .ensures)
+  low = small (at .loop .inv) more (x .mark-in .result) (x .mark-in .ensures)
 
   fits : getD (at .loop .numbers) (x .mark-in .result .number) 0 + 1 ≤ begun .args .n
-  fits = number-fits (begun .pre .0) (at .loop .inv) more (x .mark-in .result) (x .mark-in .ensures)
+  fits = number-fits (at .loop .inv) more (x .mark-in .result) (x .mark-in .ensures)
 
 add-odd : tie.Need-add-odd Inv-loop μ-loop
 add-odd c =
     let x = c .before .before .before in
-    omega (arith, odd-fits (begun x .pre .0) (at x .loop .inv) (more x) (x .mark-in .result) (x .mark-in .ensures) (c .one-if .ensures ∙ ap (λ (b : Bool). cond b 1 0) (c .before .is-odd .ensures)))
+    omega (arith, odd-fits (at x .loop .inv) (more x) (x .mark-in .result) (x .mark-in .ensures) (c .one-if .ensures ∙ ap (λ (b : Bool). cond b 1 0) (c .before .is-odd .ensures)))
 
 loop-again : tie.Need-loop-again Inv-loop μ-loop
 loop-again c =
     let x = c .before .before .before in
-    turn (begun x .pre .0) (at x .loop .inv) (more x) (x .mark-in .result) (x .mark-in .ensures) (c .one-if .ensures ∙ ap (λ (b : Bool). cond b 1 0) (c .before .is-odd .ensures))
+    turn (at x .loop .inv) (more x) (x .mark-in .result) (x .mark-in .ensures) (c .one-if .ensures ∙ ap (λ (b : Bool). cond b 1 0) (c .before .is-odd .ensures))
 
 returns : tie.Need-returns Inv-loop μ-loop
 unfolding countedOf

@@ -1,4 +1,4 @@
-use Prim.Native.Nat.{_+_, _*_, _-_, _≤_}
+use Prim.Native.Nat.{ℕ, _+_, _*_, _-_, _≤_}
 use mathlib.Core.Path.{_≡_, sym, ap, subst, _∙_}
 use native.Mathlib.Omega.{arith}
 use borrow.Author.Needs.{needs}
@@ -8,7 +8,6 @@ use Rattle.format.specs.Fields.{recordBytes}
 use Rattle.layout.specs.Placed.{laid}
 use Rattle.walker.specs.declared.Place.{Place}
 use Rattle.returns.specs.declared.Counted.{Counted}
-use Rattle.returns.specs.declared.Survey.{Survey}
 use Rattle.returns.specs.Returns.{countedOf, surveyAt, surveyOf}
 use Rattle.returns.specs.Laws.{begun-end}
 use Rattle.returns.proofs.survey_of.Statement.{statement}
@@ -33,19 +32,20 @@ module _ (x : tie.After-for-format) where
   rest : take (length (a .args .file .now) - p .at) (drop (p .at) (a .args .file .now)) ≡ drop (p .at) (a .args .file .now)
   rest = take-all (length (a .args .file .now) - p .at) (drop (p .at) (a .args .file .now)) (simp length-drop (omega arith))
 
+  long : x .for-format .result .«record_len» ≡ recordBytes (p .format)
+  long = laid (p .format) (x .for-format .ensures) .long
+
 count-all-requires : tie.Need-count-all-requires
-count-all-requires c κs =
-    let x = c .before in
-    let long = laid (p x .format) (x .for-format .ensures) .long in
-    (long, rw (rest x, length-drop, long) (omega (arith, end x)))
+count-all-requires c κs = let x = c .before in rw (rest x, length-drop, long x) (omega (arith, end x))
 
 returns : tie.Need-returns
 unfolding surveyOf surveyAt
 returns c =
     let x = c .before .before in
     let q = p x in
-    ap (λ (k : Counted). record { format = q .format; at = q .at; count = q .count; returns = k }) (c .count-all .ensures ∙ ap (countedOf (q .format) (q .count)) (rest x))
-    ∙ ap (λ (y : Place). surveyAt (y .format) (y .at) (y .count) (a x .args .file .now)) (begun x .begin .ensures)
+    ap (λ (k : Counted). record { extended = q .format .«is_extended»; at = q .at; each = x .for-format .result .«record_len»; count = q .count; returns = k }) (c .count-all .ensures ∙ ap (countedOf (q .format .«is_extended») (x .for-format .result .«record_len») (q .count)) (rest x))
+    ∙ ap (λ (m : ℕ). surveyAt (q .format .«is_extended») (q .at) m (q .count) (a x .args .file .now)) (long x)
+    ∙ ap (λ (y : Place). surveyAt (y .format .«is_extended») (y .at) (recordBytes (y .format)) (y .count) (a x .args .file .now)) (begun x .begin .ensures)
 
 pub survey-of-spec : {M : Type 1} → statement M
 survey-of-spec =
