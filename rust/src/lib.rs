@@ -66,7 +66,8 @@
 //! A viewer wants one field of many points, or their places or their colours, and takes [`columns`]: [`File::column`] fills a buffer
 //! that is lent, and nothing else is read.
 //!
-//! What the extra bytes of the points hold, as a reflectance, is found by its name: [`File::attributes`], and the module [`attributes`].
+//! A file that is accepted may be wrong all the same, in its counts, its texts and its points' return numbers: [`File::findings`] has each
+//! place, with a sentence.
 //!
 //! A whole file of LAS 1.2 becomes one of LAS 1.4, for clients who move to newer software, by [`File::to_new`], and comes back by
 //! [`File::to_old`].
@@ -103,6 +104,7 @@ pub mod columns;
 mod convert;
 mod error;
 mod file;
+mod findings;
 mod flags;
 mod format;
 mod header;
@@ -125,6 +127,7 @@ pub use columns::{Column, Stretch};
 pub use convert::Run;
 pub use error::Error;
 pub use file::{allowance_for, Checked, File, Part, PartKind, Parts, Points, Vlrs};
+pub use findings::{Finding, Findings, Rule};
 pub use flags::{Flags, ScanDirection};
 pub use format::Format;
 pub use header::{Bounds, Evlrs, Header, LargeFile, Version};

@@ -1,13 +1,17 @@
-//! The sample that the repository ships is what its generator makes, and shows what it is there for.
+//! The samples that the repository ships are what their generators make, and show what they are there for.
 
 mod common;
+
+#[allow(dead_code)] // its main
+#[path = "../examples/contractor.rs"]
+mod contractor;
 
 #[allow(dead_code)] // its main
 #[path = "../examples/stockpile.rs"]
 mod stockpile;
 
-use common::sample;
-use inscjarol::File;
+use common::{repository, sample};
+use inscjarol::{File, Rule};
 use std::fs;
 
 #[test]
@@ -18,6 +22,23 @@ fn the_generator_makes_the_shipped_bytes() {
         made == shipped,
         "cargo run --example stockpile -- ../samples/stockpile.las"
     );
+}
+
+#[test]
+fn the_contractors_file_breaks_each_rule_once() {
+    let shipped = fs::read(repository().join("samples/contractor.las")).unwrap();
+    let made = contractor::file().unwrap();
+    assert!(
+        made == shipped,
+        "cargo run --example contractor -- ../samples/contractor.las"
+    );
+    let file = File::check(&made).unwrap();
+    let mut rules: Vec<Rule> = file.findings().map(|finding| finding.rule).collect();
+    rules.sort();
+    assert_eq!(rules, Rule::ALL);
+    // The other sample has nothing wrong.
+    let stockpile = fs::read(sample()).unwrap();
+    assert_eq!(File::check(&stockpile).unwrap().finding_count(), 0);
 }
 
 #[test]
