@@ -193,7 +193,7 @@ const LARGE: u64 = 247;
 /// Where the return number stands in a point record of any format.
 const RETURNS: u64 = 14;
 
-/// The findings of a file in their order; from [`File::findings`]. They are numbers until each one's turn comes, 32 bytes for a finding.
+/// The findings of a file in their order; from [`File::findings`]. They are numbers until each one's turn comes.
 #[derive(Clone, Debug)]
 pub struct Findings<'a> {
     file: File<'a>,
@@ -205,13 +205,18 @@ pub struct Findings<'a> {
     by_return: Option<[u64; 16]>,
 }
 
+impl Findings<'_> {
+    /// The bytes of memory that a finding takes until its turn comes.
+    pub const BYTES: u64 = 32;
+}
+
 /// Findings.
 impl<'a> File<'a> {
     /// What is wrong with the file, though it is accepted: every counter, text field and point that breaks a [`Rule`], each once and no
     /// other, in file order, those of the same byte in the order of the rules.
     ///
-    /// This looks at all points, once, and once more where there are findings. Memory is taken for the findings, 32 bytes each, and for
-    /// nothing else; [`File::finding_count`] says beforehand how many there are.
+    /// This looks at all points, once where nothing is wrong, else up to three times, to count findings and then to tell them. Memory is
+    /// taken for the findings, [`Findings::BYTES`] each, and for nothing else.
     ///
     /// ```
     /// # let bytes = std::fs::read("../samples/contractor.las")?;
@@ -229,8 +234,29 @@ impl<'a> File<'a> {
     /// # Ok::<(), Box<dyn std::error::Error>>(())
     /// ```
     pub fn findings(&self) -> Findings<'a> {
-        let count = sys::in_memory(self.finding_count());
-        let mut rows = vec![0; count.saturating_mul(4)];
+        self.findings_of(self.finding_count())
+    }
+
+    /// The findings where there are at most so many; else how many there are, and no memory is taken: of a file whose points are all
+    /// wrong the findings may be more than the file has bytes.
+    ///
+    /// ```
+    /// # let bytes = std::fs::read("../samples/contractor.las")?;
+    /// let file = inscjarol::File::check(&bytes)?;
+    /// assert_eq!(file.findings_within(4).err(), Some(5));
+    /// assert_eq!(file.findings_within(5).map(|findings| findings.len()), Ok(5));
+    /// # Ok::<(), Box<dyn std::error::Error>>(())
+    /// ```
+    pub fn findings_within(&self, most: u64) -> Result<Findings<'a>, u64> {
+        match self.finding_count() {
+            count if count > most => Err(count),
+            count => Ok(self.findings_of(count)),
+        }
+    }
+
+    /// The findings, of which there are so many.
+    fn findings_of(&self, count: u64) -> Findings<'a> {
+        let mut rows = vec![0; sys::in_memory(count).saturating_mul(4)];
         if count > 0 {
             // There is room for them, and an accepted file is refused for nothing else.
             let _ = sys::findings(self.bytes(), self.allowance, &mut rows);

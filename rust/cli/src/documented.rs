@@ -113,7 +113,48 @@ const OBJECTS: &[(&str, Fields)] = &[
         ],
     ),
     (
-        "parts, info, grid, points, sheet and rewrite, for a file that is refused:",
+        "audit, for each finding of a file:",
+        &[
+            NAME,
+            ACCEPTED,
+            ("finding.rule", "number", "1 to 5: 'inscjarol help audit'"),
+            ("finding.name", "text", "what the rule is called"),
+            (
+                "finding.part",
+                "number",
+                "the part, as parts has them, counted from 1",
+            ),
+            ("finding.kind", "text", "what that part is, as parts has it"),
+            ("finding.point", "number", "counted from 1, or 0"),
+            (
+                "finding.byte",
+                "number",
+                "first byte of the counter, field or record",
+            ),
+            ("finding.words", "text", "a sentence"),
+        ],
+    ),
+    (
+        "audit, for a file that is accepted, after its findings:",
+        &[
+            NAME,
+            ACCEPTED,
+            (
+                "findings",
+                "number",
+                "how many there are, with those that --max leaves out",
+            ),
+            ("rules[].rule", "number", "each rule in turn, 1 to 5"),
+            ("rules[].name", "text", "what it is called"),
+            ("rules[].findings", "number", "how many of them are of it"),
+        ],
+    ),
+    (
+        "audit, for a file that is refused:",
+        &[NAME, NOT_ACCEPTED, NUMBER, KIND, VALUE, RECORD, WORDS],
+    ),
+    (
+        "parts, info, points and rewrite, for a file that is refused:",
         &[NAME, NOT_ACCEPTED, NUMBER, KIND, VALUE, RECORD, WORDS],
     ),
     (

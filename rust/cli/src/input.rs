@@ -158,7 +158,7 @@ fn read(
 }
 
 /// How many bytes of memory there are to be had, where the system says so.
-fn free() -> Option<u64> {
+pub(crate) fn free() -> Option<u64> {
     let about = fs::read_to_string("/proc/meminfo").ok()?;
     let line = about
         .lines()

@@ -23,6 +23,7 @@
 mod append;
 mod args;
 mod ask;
+mod audit;
 mod check;
 mod classify;
 mod columns;
@@ -77,6 +78,7 @@ pub(crate) struct Command {
 /// Every command, in the order in which help tells them.
 const COMMANDS: &[Command] = &[
     check::COMMAND,
+    audit::COMMAND,
     parts::COMMAND,
     info::COMMAND,
     grid::COMMAND,
@@ -261,9 +263,11 @@ fn overview() -> String {
     }
     text.push_str(
         "  help     teach a command: inscjarol help points\n\n\
-         Files may be of any size; - is the standard input. Of a folder check, parts, info, grid, sheet, ask and convert take the .las files.\n\
+         Files may be of any size; - is the standard input. Of a folder check, audit, parts, info, ask and convert take the .las\n\
+         files.\n\
          Every command takes --json: 'inscjarol help json' says what that prints.\n\
-         Exit status: 0 all is well, 1 a file was refused, 2 wrong use or a file that cannot be read or written.\n\n\
+         Exit status: 0 all is well, 1 a file was refused or something found, 2 wrong use or a file that cannot be read or\n\
+         written.\n\n\
          To begin with:\n  inscjarol check *.las\n  inscjarol info FILE\n  inscjarol points FILE | head\n",
     );
     text

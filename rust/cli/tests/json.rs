@@ -195,6 +195,9 @@ fn every_field_that_is_printed_is_told_and_every_one_that_is_told_is_printed() {
                 (_, true, _) => "every command, for a file that cannot be read or written:",
                 ("check", _, true) => "check, for a file that is refused:",
                 ("append", _, true) => "append, where it is refused:",
+                ("audit", _, true) => "audit, for a file that is refused:",
+                ("audit", ..) if has("finding.rule") => "audit, for each finding of a file:",
+                ("audit", ..) => "audit, for a file that is accepted, after its findings:",
                 ("ask", _, true) if has("format") => {
                     "ask, for a file that cannot go, or whose points cannot:"
                 }
@@ -236,7 +239,7 @@ fn every_field_that_is_printed_is_told_and_every_one_that_is_told_is_printed() {
         }
     };
     for path in &files {
-        for command in ["check", "parts", "info", "grid", "points", "sheet", "ask"] {
+        for command in ["check", "audit", "parts", "info", "points", "ask"] {
             see(&[command], path, &[]);
         }
         see(&["ask", "--to", "1.2"], path, &[]);

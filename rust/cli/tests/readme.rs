@@ -34,6 +34,8 @@ fn the_tool_says_what_it_shows() {
     fs::create_dir(folder.join("samples")).unwrap();
     let whole = fs::read(sample()).unwrap();
     folder.put("samples/stockpile.las", &whole);
+    let contractor = fs::read(repository().join("samples/contractor.las")).unwrap();
+    folder.put("samples/contractor.las", &contractor);
     folder.put("broken.las", &whole[..50_000]);
     folder.put("east.las", &ground(1_200));
     let keys = NewKeys::new()
@@ -73,8 +75,5 @@ fn the_tool_says_what_it_shows() {
             .unwrap();
         assert_eq!(String::from_utf8(output.stdout).unwrap(), expected);
     }
-    assert_eq!(
-        commands,
-        ["check", "ask", "convert", "sheet", "classify", "grid"]
-    );
+    assert_eq!(commands, ["check", "audit", "ask", "convert", "classify"]);
 }
