@@ -1243,7 +1243,7 @@ fn json_before_the_command() {
 fn what_was_meant() {
     let (_, err, status) = told(&run(&["chek", "a.las"]));
     assert!(
-        err.contains("there is no command 'chek' (there are check, parts,")
+        err.contains("there is no command 'chek' (there are check, audit,")
             && err.ends_with("did you mean check?\n"),
         "{err}"
     );
