@@ -21,9 +21,10 @@ use Rattle.cursor.specs.Parts.{Covers}
 use Rattle.cursor.specs.Cursor.{stepOf, leftOf}
 use Rattle.cursor.specs.Laws.{has-part, has-none}
 use Rattle.cursor.specs.Covers.{covers-up}
+use Rattle.walker.specs.Begin.{beginOf}
 use Rattle.walker.specs.Accepted.{begins}
 use Rattle.returns.specs.declared.Survey.{Survey}
-use Rattle.returns.specs.Returns.{oddIn, oddOf, surveyAt, surveyOf}
+use Rattle.returns.specs.Returns.{oddIn, oddOf, surveyAt, surveyBy, surveyOf}
 use Rattle.finding.specs.declared.Finding.{Finding}
 use Rattle.finding.specs.Rules.{finding, when, through}
 use Rattle.finding.specs.Told.{told, told-none, told-length, both}
@@ -75,7 +76,7 @@ survey-is allowance s e =
     let holds = accepted-holds allowance s e in
     let extended = ap (λ (x : Format). x .«is_extended») f ∙ format-extended allowance s holds in
     let long = ap recordBytes f ∙ format-long allowance s holds in
-    λ i. surveyAt (extended i) (at i) (long i) (count i) s
+    ap (surveyBy (beginOf allowance s) s) is ∙ (λ i. surveyAt (extended i) (at i) (long i) (count i) s)
 
 -- before a step of the cursor: the parts that are left follow one another, and what they add to what is told makes the whole
 pub record Driving (s : List ℕ) (v : Survey) (c₀ : Cursor) (d₀ : List ℕ) (n : ℕ) (d : List ℕ) (number : ℕ) (c : Cursor) : Type 0 where

@@ -15,8 +15,9 @@ use Rattle.rules.specs.declared.Checked.the-variants as checked
 use Rattle.file.specs.Rules.{checkedOf}
 use Rattle.file.specs.Points.{format-long}
 use Rattle.file.specs.Theorems.{accepted-holds}
-use Rattle.walker.specs.Begin.{refusedPlace, beginOf}
-use Rattle.walker.specs.Accepted.{begins}
+use Rattle.walker.specs.declared.Start.the-variants as start
+use Rattle.walker.specs.Begin.{beginOf}
+use Rattle.walker.specs.Accepted.{begins, begins-refused}
 use Rattle.returns.specs.declared.Survey.{Survey}
 use Rattle.returns.specs.Returns.{markOf, oddIn, haveOf, oddOf, valuesOf, countedOf, surveyAt}
 
@@ -68,17 +69,16 @@ module _ (e : Bool) (m : ℕ) where
         let cut : at + m - at ≡ m = omega arith in
         rw (less, cut, drop-drop m at s)
 
--- the points where a walker begins end in the file
-pub begun-end : (allowance : ℕ) (s : List ℕ) → (let p = beginOf allowance s in p .at + p .count * recordBytes (p .format) ≤ length s)
-unfolding beginOf refusedPlace
-begun-end allowance s = go (checkedOf allowance s) refl
+-- the points of an accepted file end in it
+pub begun-end : (allowance : ℕ) (s : List ℕ) → (let p = beginOf allowance s in p .start ≡ start.Accepted → p .at + p .count * recordBytes (p .format) ≤ length s)
+begun-end allowance s accepted = go (checkedOf allowance s) refl
   where
     go : (x : Checked) → checkedOf allowance s ≡ x → (let p = beginOf allowance s in p .at + p .count * recordBytes (p .format) ≤ length s)
     go (checked.Accepted n) e =
         let (f, at, count, is) = begins allowance s e in
         let holds = accepted-holds allowance s e in
         rw (f, at, count, format-long allowance s holds) (holds .parts .points-within)
-    go (checked.Refused r m n) e = rw e (omega arith)
+    go (checked.Refused r m n) e = let no = begins-refused allowance s e in let z : _≡_ {A = ℕ} 0 1 = cc in absurd (omega arith)
 
 -- what a survey says of its points
 module _ (e : Bool) (at m n : ℕ) (s : List ℕ) where

@@ -7,6 +7,9 @@ use lib.ListN.{take, drop}
 use Rattle.le.specs.Le.{num}
 use Rattle.format.specs.Fields.{recordBytes}
 use Rattle.flags.specs.Readings.{low, field}
+use Rattle.walker.specs.declared.Start.{Start}
+use Rattle.walker.specs.declared.Start.the-variants as start
+use Rattle.walker.specs.declared.Place.{Place}
 use Rattle.walker.specs.Begin.{beginOf}
 use Rattle.returns.specs.declared.Mark.{Mark}
 use Rattle.returns.specs.declared.Counted.{Counted}
@@ -52,6 +55,10 @@ countedOf extended m n s = record { numbers = valuesOf (λ r. haveOf extended m 
 unfoldable pub surveyAt : Bool → ℕ → ℕ → ℕ → List ℕ → Survey
 surveyAt extended at m n s = record { extended = extended; at = at; each = m; count = n; returns = countedOf extended m n (drop at s) }
 
--- the points where a walker begins
+-- the points where a walker begins; of a file that is refused, none
+abbrev pub surveyBy : Place → List ℕ → Start → Survey
+surveyBy p s start.Accepted = surveyAt (p .format .«is_extended») (p .at) (recordBytes (p .format)) (p .count) s
+surveyBy p s (start.Refused r k) = surveyAt (p .format .«is_extended») 0 (recordBytes (p .format)) 0 s
+
 unfoldable pub surveyOf : ℕ → List ℕ → Survey
-surveyOf allowance s = let p = beginOf allowance s in surveyAt (p .format .«is_extended») (p .at) (recordBytes (p .format)) (p .count) s
+surveyOf allowance s = surveyBy (beginOf allowance s) s (beginOf allowance s .start)

@@ -1,10 +1,13 @@
 // The return numbers of a file's points: how many records have each, and how many have one that cannot be. Added by document 02, No. 12.
 ghost use mathlib.Core.Path.{_≡_};
 ghost use mathlib.Core.Bool.{cond};
-ghost use Prim.Native.Nat.{_*_, _≤_};
+ghost use Prim.Native.Nat.{_+_, _*_, _≤_};
 ghost use lib.ListN.{length};
-ghost use Rattle.returns.specs.Returns.{markOf, isOdd, oddIn, countedOf, surveyOf};
+ghost use Rattle.format.specs.Fields.{recordBytes};
+ghost use Rattle.returns.specs.Returns.{markOf, isOdd, oddIn, countedOf, surveyAt, surveyOf};
+use format::Format;
 use layout::Layout;
+use walker::Start;
 
 // A point's return number, and its number of returns.
 pub struct Mark {
@@ -33,15 +36,28 @@ pub fn survey_of(file: &[u8], allowance: u64) -> Survey
     ensures { λ r. ⌜ r ≡ surveyOf allowance (now (file .entry)) ⌝ }
 {
     let begun = walker::begin(file, allowance);
-    let format = begun.format;
-    let at = begun.at;
+    let start = begun.start;
+    match start {
+        Start::Accepted => survey_at(file, begun.format, begun.at, begun.count),
+        Start::Refused {
+            refusal: _,
+            record: _,
+        } => survey_at(file, begun.format, 0, 0),
+    }
+}
+
+// So many records of a format from this byte on, all of them there.
+fn survey_at(file: &[u8], format: Format, at: usize, count: u64) -> Survey
+    requires { ⌜ at + count * recordBytes format ≤ length (now file) ⌝ }
+    ensures { λ r. ⌜ r ≡ surveyAt (format .«is_extended») at (recordBytes format) count (now (file .entry)) ⌝ }
+{
     let each = Layout::for_format(format).record_len;
-    let returns = count_all(&file[at..], format.is_extended, each, begun.count as usize);
+    let returns = count_all(&file[at..], format.is_extended, each, count as usize);
     Survey {
         extended: format.is_extended,
         at,
         each,
-        count: begun.count,
+        count,
         returns,
     }
 }
