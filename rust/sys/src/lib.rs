@@ -345,11 +345,12 @@ mod lent {
             row: &mut Row,
         );
 
-        pub(super) fn las_sheet_add(
+        pub(super) fn las_findings(
             file: *const u8,
             len: usize,
             allowance: u64,
-            sheet: &mut SheetNumbers,
+            out: *mut u64,
+            out_len: usize,
             row: &mut Row,
         );
 
@@ -489,14 +490,6 @@ mod lent {
             ys_len: usize,
             zs: *mut i32,
             zs_len: usize,
-            row: &mut Row,
-        );
-        pub(super) fn las_findings(
-            file: *const u8,
-            len: usize,
-            allowance: u64,
-            out: *mut u64,
-            out_len: usize,
             row: &mut Row,
         );
     }
