@@ -860,6 +860,14 @@ pub fn las_findings(file: &[u8], allowance: u64, out: &mut [u64], row: &mut Row)
     unsafe { lent::las_findings(file.as_ptr(), file.len(), allowance, to, to_len, row) }
 }
 
+/// Every finding of the file, four numbers each: its rule, its part, its point and its first byte; the value is how many there are.
+#[inline]
+pub fn las_findings(file: &[u8], allowance: u64, out: &mut [u64], row: &mut Row) {
+    let (to, to_len) = (out.as_mut_ptr(), out.len());
+    // SAFETY: both pointers go with the lengths of their borrowed slices, of which the one written to is borrowed alone.
+    unsafe { lent::las_findings(file.as_ptr(), file.len(), allowance, to, to_len, row) }
+}
+
 // Calls that append records: an offer is the records, how many they are, and how many points are believed to be there.
 
 /// Adds the records to the file, with these bounds; the value is 0 where they are added and 1 where they are already in.
