@@ -1,5 +1,5 @@
 //! What is wrong with accepted files: by the port and by document 02's rules as `findings_model` has them; and what
-//! is told, held against the order that it must have and against the points as the Rust reads them.
+//! is told, held against the order that it must have and against the file as the Rust reads it.
 
 use crate::{
     answer::Answer,
@@ -15,6 +15,8 @@ use crate::{
     report::{self, Report, Tally, stretches},
     sparse::Sparse,
 };
+use las::raw::{Header, Vlr};
+use std::array;
 
 /// The call that tells findings. The port has it, and so have the stand-ins that test the comparison itself.
 pub trait Library: Sync {
@@ -109,7 +111,7 @@ type Outcome = report::Outcome<3, 13>;
 const CALLS: [&str; 3] = [
     "las_findings",
     "findings in order, each once",
-    "findings as the Rust reads points",
+    "findings as the Rust reads files",
 ];
 const TOLD: usize = 0;
 const ORDER: usize = 1;
@@ -224,23 +226,102 @@ impl<'a, L: Library> Comparison<'a, L> {
                 .all(|two| [two[0][3], two[0][0]] != [two[1][3], two[1][0]]);
         self.outcome.reports[ORDER].check(ascending, || format!("{}: {told:?}", shown()));
 
-        // The points that the Rust reads a return number of which is zero or above the number of returns.
-        let mut points = told.iter().filter(|finding| finding[0] == 4);
-        let mut same = true;
+        let rust = self.as_the_rust_reads(file);
+        self.outcome.counted.counts[POINTS] += self.found.points();
+        self.outcome.reports[RUST].check(rust == told, || {
+            format!("{}: Rust {rust:?}, port {told:?}", shown())
+        });
+    }
+
+    /// The same of what the Rust reads: header, heads of records and points. Where they begin is the part table's.
+    fn as_the_rust_reads(&self, file: &[u8]) -> Vec<Finding> {
+        let header = Header::read_from(file).expect("an accepted header");
+        let mut returns = [0; 16];
+        let mut findings = Vec::new();
+        let part = |of| {
+            1 + self
+                .parts
+                .iter()
+                .position(|part| part[0] == of)
+                .unwrap_or(0) as u64
+        };
         for k in 0..self.found.points() {
             let (numbers, _) = self.found.point(file, k);
             let of = |call: &Call| (call.rust)(numbers[FLAGS] as u32, 0).value;
             let own = of(&flags::RETURN_NUMBER);
+            returns[own as usize] += 1;
             if own == 0 || own > of(&flags::NUMBER_OF_RETURNS) {
-                let at = self.found.point_span(k)[0];
-                same &= points
-                    .next()
-                    .is_some_and(|&[_, _, point, first]| [point, first] == [k + 1, at]);
+                findings.push([4, part(3), k + 1, self.found.point_span(k)[0]]);
             }
-            self.outcome.counted.counts[POINTS] += 1;
         }
-        same &= points.next().is_none();
-        self.outcome.reports[RUST].check(same, || format!("{}: {told:?}", shown()));
+
+        let legacy = [header.number_of_point_records]
+            .into_iter()
+            .chain(header.number_of_points_by_return);
+        if header.point_data_record_format >= 6 {
+            let counters = (107..).step_by(4).zip(legacy);
+            let not_zero = counters.filter(|&(_, counter)| counter != 0);
+            findings.extend(not_zero.map(|(at, _)| [1, 1, 0, at]));
+        }
+        let by_return: Vec<(u64, u64)> = match &header.large_file {
+            Some(large) => {
+                let count = u64::from(header.number_of_point_records);
+                if count != 0 && count != large.number_of_point_records {
+                    findings.push([2, 1, 0, 107]);
+                }
+                let counters = large.number_of_points_by_return.into_iter();
+                (255..).step_by(8).zip(counters).collect()
+            }
+            None => {
+                let counters = header.number_of_points_by_return.map(u64::from);
+                (111..).step_by(4).zip(counters).collect()
+            }
+        };
+        let unlike = by_return
+            .into_iter()
+            .zip(&returns[1..])
+            .filter(|&((_, counter), &count)| counter != count);
+        findings.extend(unlike.map(|((at, _), _)| [3, 1, 0, at]));
+
+        for (part, &[kind, start, length]) in (1..).zip(&self.parts) {
+            let texts = match kind {
+                0 => [
+                    (26, is_given_back(&header.system_identifier)),
+                    (58, is_given_back(&header.generating_software)),
+                ],
+                1 | 4 | 5 => {
+                    let bytes = &file[start as usize..][..length as usize];
+                    let head = Vlr::read_from(bytes, kind != 1).expect("a whole record");
+                    let description = if kind == 1 { 22 } else { 28 };
+                    [
+                        (2, is_given_back(&head.user_id)),
+                        (description, is_given_back(&head.description)),
+                    ]
+                }
+                _ => continue,
+            };
+            let changed = texts.into_iter().filter(|&(_, given_back)| !given_back);
+            findings.extend(changed.map(|(at, _)| [5, part, 0, start + at]));
+        }
+        findings.sort_by_key(|&[rule, _, _, at]| (at, rule));
+        findings
+    }
+}
+
+/// Whether the Rust gives a text field back as it was, when it reads it as a text, up to its first zero, and writes
+/// that. It replaces what isn't UTF-8, so that letters stand in for all that isn't zero.
+fn is_given_back(text: &[u8]) -> bool {
+    let letter = |k: usize| text.get(k).map_or(0, |&byte| byte.min(1) * b'a');
+    let (user_id, description) = (array::from_fn(letter), array::from_fn(letter));
+    let read = las::Vlr::new(Vlr {
+        user_id,
+        description,
+        ..Vlr::default()
+    });
+    let given = read.into_raw(false).expect("letters");
+    match text.len() {
+        16 => given.user_id == user_id,
+        _ => given.description == description,
     }
 }
 
