@@ -152,7 +152,6 @@ const LEAST: [usize; 11] = [20, 28, 26, 34, 57, 63, 30, 36, 38, 59, 67];
 struct Told {
     findings: Vec<[u64; 4]>,
     part: u64,
-    part_at: usize,
 }
 
 impl Told {
@@ -424,7 +423,7 @@ impl StandIn {
         let mut at = header;
         let vlrs = u32_at(file, 100);
         for k in 0..vlrs {
-            self.next_part(&mut told, at);
+            told.part += 1;
             if !(k + 1 == vlrs && self.has(LastVlrUnseen)) {
                 self.tell_head(&mut told, file, at, true);
             }
@@ -434,7 +433,7 @@ impl StandIn {
         {
             self.gap(&mut told);
         }
-        self.next_part(&mut told, offset);
+        told.part += 1;
         let mut bad = false;
         for k in 0..count {
             let record = offset + k * stride;
@@ -488,7 +487,7 @@ impl StandIn {
             if at.checked_add(60).is_none_or(|head| head > file.len()) {
                 return;
             }
-            self.next_part(told, at);
+            told.part += 1;
             let unseen = packets && self.has(PacketsUnseen)
                 || pair && self.has(EvlrsUnseen)
                 || k + 1 == later && self.has(LastEvlrUnseen);
@@ -497,11 +496,6 @@ impl StandIn {
             }
             at = at.saturating_add(60 + u64_at(file, at + 20).min(1 << 62) as usize);
         }
-    }
-
-    fn next_part(&self, told: &mut Told, at: usize) {
-        told.part += 1;
-        told.part_at = at;
     }
 
     fn gap(&self, told: &mut Told) {
