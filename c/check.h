@@ -50,6 +50,11 @@ void test_descriptors(void);
 void test_headers(void);
 void test_files(void);
 void test_columns(void);
+void test_attributes(void);
+void test_keys(void);
+
+void test_sheet(void);
+
 void test_findings(void);
 void test_append(void);
 void test_reclassify(void);

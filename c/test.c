@@ -96,6 +96,9 @@ int main(int argc, char **argv) {
     test_headers();
     test_files();
     test_columns();
+    test_attributes();
+    test_keys();
+    test_sheet();
     test_findings();
     test_append();
     test_reclassify();

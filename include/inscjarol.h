@@ -603,6 +603,160 @@ void las_column_blue(const uint8_t *file, size_t file_len, uint64_t allowance, u
 void las_column_nir(const uint8_t *file, size_t file_len, uint64_t allowance, uint64_t first, uint64_t count, uint16_t *dst,
                     size_t dst_len, uint64_t row[3]);
 
+/* ---- a VLR by its ids ---- */
+
+/* Where the data of the first VLR with this user id and this record id is in the file: then the value is 1. Where no VLR has them, the
+ * value is 0, and the span is left. All 16 bytes of a user id are compared, zeros filling the one that is lent, so that none is found by
+ * more than 16 bytes; EVLRs are not looked at. Refuses as las_file_check does, and leaves the span. */
+void las_vlr_first(const uint8_t *file, size_t file_len, uint64_t allowance, const uint8_t *user, size_t user_len,
+                   uint16_t record_id, uint64_t span[2], uint64_t row[3]);
+
+/* ---- attributes ---- */
+
+/* An attribute is a value that the extra bytes of every point hold, as a reflectance: the descriptors say which there are, 192 bytes
+ * each in the data of the first VLR with the user id "LASF_Spec" and the record id 4, in the order in which they stand in a point. Bytes
+ * are given as they are stored: scale, offset and the values that stand for none are in the descriptor, and the caller's to apply.
+ *
+ * The numbers of an attribute say where its values are, so that las_attribute_value and las_attribute_column need neither a file check nor the
+ * descriptors. They are of the file that they were asked of, with the bytes that it had then. Numbers made by hand are taken too: no value is
+ * there that would lie outside the file, and none where the stride is no record length, 20 to 65,535. */
+
+/* The places of an attribute's numbers. */
+enum {
+    LAS_ATTRIBUTE_DATA_TYPE = 0, /* 0 bytes of which nothing is said, or 1 to 10: u8, i8, u16, i16, u32, i32, u64, i64, f32, f64 */
+    LAS_ATTRIBUTE_SIZE = 1,      /* the bytes of a value: 1 1 2 2 4 4 8 8 4 8 of the types 1 to 10, 0 to 255 of type 0 */
+    LAS_ATTRIBUTE_AT = 2,        /* the first byte of the first point's value in the file */
+    LAS_ATTRIBUTE_STRIDE = 3,    /* the bytes from a point's value to the next one's, which is the record length */
+    LAS_ATTRIBUTE_COUNT = 4,     /* the points of the file */
+    LAS_ATTRIBUTE_NUMBERS = 5
+};
+
+/* The places of the numbers of a place among the attributes, which the caller keeps between calls. */
+enum {
+    LAS_ATTRIBUTES_DESCRIPTOR = 0, /* the first byte of the next descriptor in the file */
+    LAS_ATTRIBUTES_LEFT = 1,       /* how many attributes are left */
+    LAS_ATTRIBUTES_AT = 2,         /* the first byte of the first point's next value in the file */
+    LAS_ATTRIBUTES_STRIDE = 3,
+    LAS_ATTRIBUTES_COUNT = 4,
+    LAS_ATTRIBUTES_NUMBERS = 5
+};
+
+/* The place before the first attribute of the file, for las_attributes_next to tell them one by one; the value is how many there are.
+ * Refuses as las_file_check does, then with LAS_REFUSED_NO_DESCRIPTORS where no VLR describes the extra bytes;
+ * LAS_REFUSED_DESCRIPTOR_BYTES where its data is not a multiple of 192 bytes: none is one, and there are no attributes then;
+ * LAS_REFUSED_DATA_TYPE where a type is above 10; LAS_REFUSED_ATTRIBUTE_SIZES where the sizes of all add up to more than a
+ * point's extra bytes; and leaves the place. So one broken descriptor refuses all. */
+void las_attributes(const uint8_t *file, size_t file_len, uint64_t allowance, uint64_t attributes[5], uint64_t row[3]);
+
+/* Whether there is an attribute at the place: then its numbers and, as a span, where its descriptor is in the file, for
+ * las_descriptor_read, are written, and the place moves on; else, after the last, and at a place made by hand whose descriptor is not all
+ * in the file or whose value is at 2^63 or beyond, all stay as they are. */
+bool las_attributes_next(const uint8_t *file, size_t file_len, uint64_t attributes[5], uint64_t attribute[5],
+                         uint64_t span[2]);
+
+/* The attribute with a name, of equal ones the first; the value is 0. All 32 bytes of a name are compared, zeros filling the one that is
+ * lent, capitals and blanks too: the empty name is that of 32 zeros. Refuses as las_attributes does, then with
+ * LAS_REFUSED_NAME_NOT_FOUND, also where the name has more than 32 bytes; and leaves the attribute. */
+void las_attribute_find(const uint8_t *file, size_t file_len, uint64_t allowance, const uint8_t *name, size_t name_len,
+                        uint64_t attribute[5], uint64_t row[3]);
+
+/* Where an attribute's value in a point is in the file, the first point being 1; the value of the row is the number that its bytes are, the
+ * first byte the lowest, of more than eight bytes the first eight. A signed type stands in two's complement of its own width, and a float
+ * as its bits. Refuses with LAS_REFUSED_INDEX and the count of points where there is no such point, 0 or one past the last, or no value;
+ * and leaves the span. */
+void las_attribute_value(const uint8_t *file, size_t file_len, const uint64_t attribute[5], uint64_t point, uint64_t span[2],
+                         uint64_t row[3]);
+
+/* The column of an attribute: those numbers of count points from point number first on go to the front of dst, what lies past them
+ * staying; the value is the count. Refuses with LAS_REFUSED_INDEX where the stretch is not within the points, of which an empty one may begin
+ * right behind the last, or not all have a value; then with LAS_REFUSED_NO_ROOM, with the count, where dst has fewer entries; and leaves
+ * dst. */
+void las_attribute_column(const uint8_t *file, size_t file_len, const uint64_t attribute[5], uint64_t first, uint64_t count,
+                          uint64_t *dst, size_t dst_len, uint64_t row[3]);
+
+/* ---- coordinate keys ---- */
+
+/* The coordinate keys of a file say which grid its points are in. Their directory is the data of the first VLR with user id
+ * LASF_Projection and record id 34735: four numbers of 16 bits, the last one the number of keys, and four for each key. The
+ * values stand in the directory itself or in the first such VLRs with record ids 34736, doubles, and 34737, text. */
+
+/* The places of a file's keys, which are numbers that the caller keeps; of the count the low 16 bits count. */
+enum {
+    LAS_KEYS_COUNT = 0,     /* how many keys there are */
+    LAS_KEYS_DIRECTORY = 1, /* the first byte of their directory in the file */
+    LAS_KEYS_BYTES = 2,     /* and its bytes */
+    LAS_KEYS_DOUBLES = 3,   /* the first byte of the doubles, and of the text; 0 where there are none */
+    LAS_KEYS_TEXT = 4,
+    LAS_KEYS_NUMBERS = 5
+};
+
+/* The places of a key. */
+enum {
+    LAS_KEY_KEY = 0,      /* the key */
+    LAS_KEY_LOCATION = 1, /* 0: its value is a number; 34736: it is doubles, of eight bytes each; 34737: it is text */
+    LAS_KEY_VALUE = 2,    /* the number; 0 where it is doubles or text */
+    LAS_KEY_START = 3,    /* the first byte of the doubles or of the text in the file; 0 where it is a number */
+    LAS_KEY_LENGTH = 4,   /* and their bytes */
+    LAS_KEY_NUMBERS = 5
+};
+
+/* Where the keys of the file stand, once its directory was judged; the value is how many there are. Refuses as las_file_check
+ * does, then with LAS_REFUSED_NO_DIRECTORY; LAS_REFUSED_DIRECTORY_SHORT where the directory's data is shorter than its keys
+ * want: more is fine; LAS_REFUSED_KEYS_NOT_RISING where a key is not above the one before it; LAS_REFUSED_UNKNOWN_LOCATION
+ * where a location is not 0, 34736 or 34737; LAS_REFUSED_TARGET_ABSENT where the VLR of a location is not there;
+ * LAS_REFUSED_TARGET_BEYOND where a value ends beyond its VLR's data; each for the whole directory before the next; and
+ * leaves the numbers. */
+void las_keys(const uint8_t *file, size_t file_len, uint64_t allowance, uint64_t keys[5], uint64_t row[3]);
+
+/* Whether there is a key with number k, the first being 0, among those of las_keys: then key has its LAS_KEY_NUMBERS numbers;
+ * else it stays as it is. Keys come in rising order. Of numbers made by hand, bytes of a directory that the file does not have are
+ * zeros, another location than 0 and 34736 is told as text, and a value that would end beyond the file is none. */
+bool las_keys_at(const uint8_t *file, size_t file_len, const uint64_t keys[5], uint16_t k, uint64_t key[5]);
+
+/* Whether the keys of las_keys have this one: then key has its numbers; else it stays as it is. */
+bool las_keys_find(const uint8_t *file, size_t file_len, const uint64_t keys[5], uint16_t wanted, uint64_t key[5]);
+
+/* A key of the file; the value of the row is 0. Refuses as las_keys does, then with LAS_REFUSED_KEY_NOT_FOUND, and leaves the
+ * numbers. */
+void las_key(const uint8_t *file, size_t file_len, uint64_t allowance, uint16_t wanted, uint64_t key[5], uint64_t row[3]);
+
+/* Writes a directory to the front of dst, what lies past it staying, from four numbers for each key: key, location, count,
+ * value or index; one to three numbers at the end are no key. In front stand 1, 1, 0 and the number of keys. The value is the
+ * count of bytes. Refuses with LAS_REFUSED_KEYS_NOT_RISING, then with LAS_REFUSED_TOO_MANY_KEYS for more than 8,190, as many
+ * as a VLR holds, then with LAS_REFUSED_NO_ROOM, and leaves dst. Locations are not judged: las_keys does. */
+void las_keys_write(const uint16_t *keys, size_t keys_len, uint8_t *dst, size_t dst_len, uint64_t row[3]);
+
+/* ---- the site sheet ---- */
+
+/* One sheet for many files, whose numbers the caller keeps; all zeros is the sheet of no files. Each file is added by itself, so a sheet
+ * of many is one call after the other. The points of each class and of each return number, 0 too, are counted from the records and never
+ * taken from header sums, and every record counts, withheld ones too: so the classes add up to the points, and so do the return numbers,
+ * over all files together. The bounds are the smallest and the largest of the stored whole numbers, whatever the scales and offsets of
+ * the files: they say something of the ground where all files have the same. */
+
+/* The places of a sheet's numbers. */
+enum {
+    LAS_SHEET_FILES = 0,      /* how many were added, files without points too */
+    LAS_SHEET_POINTS = 1,     /* how many points they have */
+    LAS_SHEET_HAS_BOUNDS = 2, /* 1, or 0 as long as there are no points; given, anything but 0 says yes */
+    LAS_SHEET_MIN_X = 3,      /* int32_t, as the five after it; all six are 0 where there are no bounds */
+    LAS_SHEET_MAX_X = 4,
+    LAS_SHEET_MIN_Y = 5,
+    LAS_SHEET_MAX_Y = 6,
+    LAS_SHEET_MIN_Z = 7,
+    LAS_SHEET_MAX_Z = 8,
+    LAS_SHEET_CLASSES = 9,   /* the first of LAS_SHEET_CLASS_NUMBERS, that of class 0 */
+    LAS_SHEET_RETURNS = 265, /* the first of LAS_SHEET_RETURN_NUMBERS, that of return number 0 */
+    LAS_SHEET_NUMBERS = 281,
+    LAS_SHEET_CLASS_NUMBERS = 256,
+    LAS_SHEET_RETURN_NUMBERS = 16
+};
+
+/* Adds a file to the sheet; the value is 0. The class is five bits of its byte in formats 0 to 5 and the whole byte in 6 to 10; the return
+ * number is three bits, or four. Refuses as las_file_check does, then with LAS_REFUSED_TOTAL_TOO_LARGE where any of the sheet's counts,
+ * each by itself, would be over 2^64 - 1; and leaves the sheet. A sheet made by hand is taken as it is. */
+void las_sheet_add(const uint8_t *file, size_t file_len, uint64_t allowance, uint64_t sheet[281], uint64_t row[3]);
+
 /* ---- findings ---- */
 
 /* What is wrong with a file that is accepted all the same, for whoever gets files from other programs: each counter, each text

@@ -2,14 +2,14 @@
 
 use oracle::{
     angle, append, attribute, column, convert, convert_plain, file, findings, flags, format,
-    header, listings, migrate, nir, point, reclassify, replay, replay_append, replay_attribute,
-    replay_column, replay_findings, replay_migrate, replay_reclassify, replay_records,
-    report::Tally, strict, vlr,
+    header, keys, listings, migrate, nir, point, reclassify, replay, replay_append,
+    replay_attribute, replay_column, replay_findings, replay_keys, replay_migrate,
+    replay_reclassify, replay_records, replay_sheet, report::Tally, sheet, strict, vlr,
 };
 use std::{env, fs, io, path::Path, process::ExitCode};
 
 /// What there is to compare, by the name that it is asked for by.
-const SUBJECTS: [&str; 18] = [
+const SUBJECTS: [&str; 20] = [
     "format",
     "flags",
     "angle",
@@ -19,6 +19,8 @@ const SUBJECTS: [&str; 18] = [
     "file",
     "column",
     "attribute",
+    "sheet",
+    "keys",
     "findings",
     "append",
     "reclassify",
@@ -44,6 +46,8 @@ fn compare(crates: &Path, write: bool, asked: &[String]) -> io::Result<bool> {
         ("file", file::compare),
         ("column", column::compare),
         ("attribute", attribute::compare),
+        ("sheet", sheet::compare),
+        ("keys", keys::compare),
         ("findings", findings::compare),
         ("append", append::compare),
         ("reclassify", reclassify::compare),
@@ -65,6 +69,8 @@ fn compare(crates: &Path, write: bool, asked: &[String]) -> io::Result<bool> {
         listings::compare(&mut tally, &crates.join("listings"), write)?;
         replay_column::compare(&mut tally, &crates.join("../c/replay_column"), write)?;
         replay_attribute::compare(&mut tally, &crates.join("../c/replay_attribute"), write)?;
+        replay_sheet::compare(&mut tally, &crates.join("../c/replay_sheet"), write)?;
+        replay_keys::compare(&mut tally, &crates.join("../c/replay_keys"), write)?;
         replay_findings::compare(&mut tally, &crates.join("../c/replay_findings"), write)?;
         replay_append::compare(&mut tally, &crates.join("../c/replay"), write)?;
         replay_migrate::compare(&mut tally, &crates.join("../c/replay_migrate"), write)?;

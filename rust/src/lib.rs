@@ -66,6 +66,7 @@
 //! A viewer wants one field of many points, or their places or their colours, and takes [`columns`]: [`File::column`] fills a buffer
 //! that is lent, and nothing else is read.
 //!
+//! What the extra bytes of the points hold, as a reflectance, is found by its name: [`File::attributes`], and the module [`attributes`].
 //! A file that is accepted may be wrong all the same, in its counts, its texts and its points' return numbers: [`File::findings`] has each
 //! place, with a sentence.
 //!

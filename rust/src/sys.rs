@@ -341,6 +341,104 @@ pub(crate) fn columns_xyz(
     asked(|row| calls::las_columns_xyz(file, allowance, stretch, to, row)).map(in_memory)
 }
 
+/// The data of the first VLR with this user id and record id; none where no VLR has them.
+pub(crate) fn vlr_first<'a>(
+    file: &'a [u8],
+    allowance: u64,
+    user: &[u8],
+    record_id: u16,
+) -> Result<Option<&'a [u8]>, Refusal> {
+    let mut part = [0; 2];
+    let found =
+        asked(|row| calls::las_vlr_first(file, allowance, user, record_id, &mut part, row))?;
+    let [start, len] = part;
+    Ok((found == 1).then(|| part_of(file, start, len)))
+}
+
+// Calls on attributes, and on their descriptors.
+
+/// The place before the first attribute, and how many there are.
+pub(crate) fn attributes(file: &[u8], allowance: u64) -> Result<(AttributesPlace, usize), Refusal> {
+    let mut place = [0; 5];
+    asked(|row| calls::las_attributes(file, allowance, &mut place, row))
+        .map(|count| (place, in_memory(count)))
+}
+
+/// The attribute at the place, which moves on, and its descriptor's bytes; none after the last.
+pub(crate) fn attributes_next<'a>(
+    file: &'a [u8],
+    place: &mut AttributesPlace,
+) -> Option<(AttributeNumbers, &'a [u8])> {
+    let (mut attribute, mut part) = ([0; 5], [0; 2]);
+    let has = calls::las_attributes_next(file, place, &mut attribute, &mut part);
+    let [start, len] = part;
+    (has == 1).then(|| (attribute, part_of(file, start, len)))
+}
+
+pub(crate) fn attribute_find(
+    file: &[u8],
+    allowance: u64,
+    name: &[u8],
+) -> Result<AttributeNumbers, Refusal> {
+    let mut attribute = [0; 5];
+    asked(|row| calls::las_attribute_find(file, allowance, name, &mut attribute, row))
+        .map(|_| attribute)
+}
+
+/// The bytes of a value, and the number that the first eight of them are.
+pub(crate) fn attribute_value<'a>(
+    file: &'a [u8],
+    attribute: &AttributeNumbers,
+    point: u64,
+) -> Result<(&'a [u8], u64), Refusal> {
+    let mut part = [0; 2];
+    let number = asked(|row| calls::las_attribute_value(file, attribute, point, &mut part, row))?;
+    let [start, len] = part;
+    Ok((part_of(file, start, len), number))
+}
+
+/// How many entries were filled, of points from the first on.
+pub(crate) fn attribute_column(
+    file: &[u8],
+    attribute: &AttributeNumbers,
+    stretch: (u64, u64),
+    dst: &mut [u64],
+) -> Result<usize, Refusal> {
+    asked(|row| calls::las_attribute_column(file, attribute, stretch, dst, row)).map(in_memory)
+}
+
+/// The descriptor at the front of the slice.
+pub(crate) fn descriptor_read(s: &[u8]) -> Result<DescriptorNumbers, Refusal> {
+    let mut descriptor = DescriptorNumbers {
+        numbers: [0; 9],
+        name: [0; 32],
+        deprecated: [0; 80],
+        description: [0; 32],
+    };
+    asked(|row| calls::las_descriptor_read(s, row, &mut descriptor)).map(|_| descriptor)
+}
+
+pub(crate) fn descriptor_write(
+    descriptor: &DescriptorNumbers,
+    dst: &mut [u8],
+) -> Result<usize, Refusal> {
+    asked(|row| calls::las_descriptor_write(descriptor, dst, row)).map(in_memory)
+}
+
+/// The bytes of a value of a data type.
+pub(crate) fn descriptor_size(data_type: u8, options: u8) -> usize {
+    in_memory(calls::las_descriptor_size(data_type, options))
+}
+
+/// Adds a file to a site sheet; a refused one leaves it.
+pub(crate) fn sheet_add(
+    file: &[u8],
+    allowance: u64,
+    sheet: &mut SheetNumbers,
+) -> Result<(), Refusal> {
+    asked(|row| calls::las_sheet_add(file, allowance, sheet, row)).map(|_| ())
+}
+
 /// How many findings there are. They go to the front of the buffer, four numbers each, where it has room for all of them.
 pub(crate) fn findings(file: &[u8], allowance: u64, out: &mut [u64]) -> Result<u64, Refusal> {
     asked(|row| calls::las_findings(file, allowance, out, row))

@@ -97,6 +97,99 @@ fn agree(bytes: &[u8]) -> bool {
     true
 }
 
+/// Attributes are refused as document 02 has it; else their values are the points' extra bytes, one after the other.
+fn attributes_agree(file: &File<'_>) {
+    let describes =
+        |vlr: &Vlr<'_>| vlr.user_id == *b"LASF_Spec\0\0\0\0\0\0\0" && vlr.record_id == 4;
+    let data = file.vlrs().find(describes).map(|vlr| vlr.data);
+    assert_eq!(file.vlr_data("LASF_Spec", 4), data);
+    let size = |descriptor: &[u8]| match descriptor[2] {
+        0 => usize::from(descriptor[3]),
+        other => [1, 1, 2, 2, 4, 4, 8, 8, 4, 8][usize::from(other) - 1],
+    };
+    let descriptors: Vec<&[u8]> = data.unwrap_or_default().chunks(192).collect();
+    let refused = match data {
+        None => Some(37),
+        Some(data) if data.len() % 192 != 0 => Some(38),
+        _ if descriptors.iter().any(|stored| stored[2] > 10) => Some(39),
+        _ => {
+            let sizes: usize = descriptors.iter().map(|stored| size(stored)).sum();
+            (sizes > usize::from(file.format().extra_bytes)).then_some(40)
+        }
+    };
+    let attributes = match file.attributes() {
+        Ok(attributes) => attributes,
+        Err(refusal) => {
+            let told = (refusal.number(), refusal.value(), refusal.record());
+            return assert_eq!(refused.map(|number| (number, 0, 0)), Some(told));
+        }
+    };
+    assert_eq!((refused, attributes.len()), (None, descriptors.len()));
+    let mut before = 0;
+    for (attribute, stored) in attributes.iter().zip(&descriptors) {
+        assert_eq!(attribute.descriptor().to_bytes(), **stored);
+        for (number, point) in (1..).zip(file.points()) {
+            let part = &point.extra_bytes[before..before + size(stored)];
+            assert_eq!(attribute.bytes(number), Ok(part));
+        }
+        let found = attributes.find(&stored[4..36]).unwrap();
+        let first = descriptors
+            .iter()
+            .find(|other| other[4..36] == stored[4..36]);
+        assert_eq!(&found.descriptor().to_bytes()[..], *first.unwrap());
+        before += size(stored);
+    }
+}
+
+/// A file with five points that have three attributes and another extra byte.
+fn described() -> Vec<u8> {
+    let descriptors = [
+        Descriptor::new("reflectance", DataType::I16).with_scale(0.01),
+        Descriptor::new("raw", DataType::Bytes(3)),
+        Descriptor::new("pulse width", DataType::F32),
+    ];
+    let new = NewFile::new(1).extra_bytes(1).attributes(&descriptors);
+    let mut bytes = new.room(5).to_vec().unwrap();
+    let file = File::check(&bytes).unwrap();
+    let point = Point {
+        extra_bytes: b"0123456789",
+        ..Point::default()
+    };
+    let records = point.to_vec(file.format()).unwrap().repeat(5);
+    let append = Append::of(&file, &records, 0);
+    append.apply(&mut bytes).unwrap();
+    bytes
+}
+
+#[test]
+fn damaged_descriptors_agree() {
+    let whole = described();
+    let mut chance = Chance(2);
+    let mut seen = [0; 5];
+    for _ in 0..20_000 {
+        let mut bytes = whole.clone();
+        for _ in 0..=chance.below(2) {
+            // The VLR's head, and of each descriptor type, options and name.
+            let place = match chance.below(3) {
+                0 => 227 + chance.below(24),
+                _ => 227 + 54 + 192 * chance.below(3) + 2 + chance.below(6),
+            };
+            bytes[place] = match chance.below(4) {
+                0 => chance.next() as u8,
+                1 => chance.below(12) as u8,
+                2 => bytes[place].wrapping_add(1),
+                _ => bytes[place].wrapping_sub(1),
+            };
+        }
+        if agree(&bytes) {
+            let file = File::check(&bytes).unwrap();
+            let refused = file.attributes().err().map(|refusal| refusal.number());
+            seen[refused.map_or(0, |number| number as usize - 36)] += 1;
+        }
+    }
+    assert!(seen.iter().all(|times| *times > 100), "{seen:?}");
+}
+
 /// Findings are as many as are counted, each after the one before and in its part; and those of points are what the points say.
 fn findings_agree(file: &File<'_>) {
     assert_eq!(file.findings().len() as u64, file.finding_count());

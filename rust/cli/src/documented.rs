@@ -154,7 +154,7 @@ const OBJECTS: &[(&str, Fields)] = &[
         &[NAME, NOT_ACCEPTED, NUMBER, KIND, VALUE, RECORD, WORDS],
     ),
     (
-        "parts, info, points and rewrite, for a file that is refused:",
+        "parts, info, grid, points, sheet and rewrite, for a file that is refused:",
         &[NAME, NOT_ACCEPTED, NUMBER, KIND, VALUE, RECORD, WORDS],
     ),
     (

@@ -263,8 +263,8 @@ fn overview() -> String {
     }
     text.push_str(
         "  help     teach a command: inscjarol help points\n\n\
-         Files may be of any size; - is the standard input. Of a folder check, audit, parts, info, ask and convert take the .las\n\
-         files.\n\
+         Files may be of any size; - is the standard input. Of a folder check, audit, parts, info, grid, sheet, ask and convert\n\
+         take the .las files.\n\
          Every command takes --json: 'inscjarol help json' says what that prints.\n\
          Exit status: 0 all is well, 1 a file was refused or something found, 2 wrong use or a file that cannot be read or\n\
          written.\n\n\

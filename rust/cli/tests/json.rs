@@ -239,7 +239,9 @@ fn every_field_that_is_printed_is_told_and_every_one_that_is_told_is_printed() {
         }
     };
     for path in &files {
-        for command in ["check", "audit", "parts", "info", "points", "ask"] {
+        for command in [
+            "check", "audit", "parts", "info", "grid", "points", "sheet", "ask",
+        ] {
             see(&[command], path, &[]);
         }
         see(&["ask", "--to", "1.2"], path, &[]);

@@ -75,5 +75,8 @@ fn the_tool_says_what_it_shows() {
             .unwrap();
         assert_eq!(String::from_utf8(output.stdout).unwrap(), expected);
     }
-    assert_eq!(commands, ["check", "audit", "ask", "convert", "classify"]);
+    assert_eq!(
+        commands,
+        ["check", "audit", "ask", "convert", "sheet", "classify", "grid"]
+    );
 }

@@ -345,12 +345,11 @@ mod lent {
             row: &mut Row,
         );
 
-        pub(super) fn las_findings(
+        pub(super) fn las_sheet_add(
             file: *const u8,
             len: usize,
             allowance: u64,
-            out: *mut u64,
-            out_len: usize,
+            sheet: &mut SheetNumbers,
             row: &mut Row,
         );
 
@@ -490,6 +489,84 @@ mod lent {
             ys_len: usize,
             zs: *mut i32,
             zs_len: usize,
+            row: &mut Row,
+        );
+
+        pub(super) fn las_vlr_first(
+            file: *const u8,
+            len: usize,
+            allowance: u64,
+            user: *const u8,
+            user_len: usize,
+            record_id: u16,
+            part: &mut Span,
+            row: &mut Row,
+        );
+        pub(super) fn las_attributes(
+            file: *const u8,
+            len: usize,
+            allowance: u64,
+            place: &mut AttributesPlace,
+            row: &mut Row,
+        );
+        pub(super) fn las_attributes_next(
+            file: *const u8,
+            len: usize,
+            place: &mut AttributesPlace,
+            attribute: &mut AttributeNumbers,
+            part: &mut Span,
+        ) -> u8;
+        pub(super) fn las_attribute_find(
+            file: *const u8,
+            len: usize,
+            allowance: u64,
+            name: *const u8,
+            name_len: usize,
+            attribute: &mut AttributeNumbers,
+            row: &mut Row,
+        );
+        pub(super) fn las_attribute_value(
+            file: *const u8,
+            len: usize,
+            attribute: &AttributeNumbers,
+            point: u64,
+            part: &mut Span,
+            row: &mut Row,
+        );
+        pub(super) fn las_attribute_column(
+            file: *const u8,
+            len: usize,
+            attribute: &AttributeNumbers,
+            first: u64,
+            count: u64,
+            dst: *mut u64,
+            dst_len: usize,
+            row: &mut Row,
+        );
+        pub(super) fn las_descriptor_read(
+            s: *const u8,
+            len: usize,
+            row: &mut Row,
+            numbers: &mut [u64; 9],
+            name: &mut [u8; 32],
+            deprecated: &mut [u8; 80],
+            description: &mut [u8; 32],
+        );
+        pub(super) fn las_descriptor_write(
+            numbers: &[u64; 9],
+            name: &[u8; 32],
+            deprecated: &[u8; 80],
+            description: &[u8; 32],
+            dst: *mut u8,
+            dst_len: usize,
+            row: &mut Row,
+        );
+        pub(super) fn las_findings(
+            file: *const u8,
+            len: usize,
+            allowance: u64,
+            out: *mut u64,
+            out_len: usize,
             row: &mut Row,
         );
     }
@@ -852,12 +929,120 @@ pub fn las_columns_xyz(
     }
 }
 
-/// Every finding of the file, four numbers each: its rule, its part, its point and its first byte; the value is how many there are.
+/// Where the data of the first VLR with this user id and record id is: then the value is 1, and else 0.
 #[inline]
-pub fn las_findings(file: &[u8], allowance: u64, out: &mut [u64], row: &mut Row) {
-    let (to, to_len) = (out.as_mut_ptr(), out.len());
+pub fn las_vlr_first(
+    file: &[u8],
+    allowance: u64,
+    user: &[u8],
+    record_id: u16,
+    part: &mut Span,
+    row: &mut Row,
+) {
+    let (from, len) = (file.as_ptr(), file.len());
+    let (by, by_len) = (user.as_ptr(), user.len());
+    // SAFETY: both pointers go with the lengths of their borrowed slices.
+    unsafe { lent::las_vlr_first(from, len, allowance, by, by_len, record_id, part, row) }
+}
+
+// Calls on attributes, which are values in the extra bytes of every point; and on their descriptors.
+
+/// The place before the first attribute; the value is how many there are.
+#[inline]
+pub fn las_attributes(file: &[u8], allowance: u64, place: &mut AttributesPlace, row: &mut Row) {
+    // SAFETY: pointer and length are those of one borrowed slice.
+    unsafe { lent::las_attributes(file.as_ptr(), file.len(), allowance, place, row) }
+}
+
+/// Whether there is an attribute at the place: then it and where its descriptor is, and the place moves on.
+#[inline]
+pub fn las_attributes_next(
+    file: &[u8],
+    place: &mut AttributesPlace,
+    attribute: &mut AttributeNumbers,
+    part: &mut Span,
+) -> u8 {
+    // SAFETY: pointer and length are those of one borrowed slice.
+    unsafe { lent::las_attributes_next(file.as_ptr(), file.len(), place, attribute, part) }
+}
+
+/// The attribute with this name.
+#[inline]
+pub fn las_attribute_find(
+    file: &[u8],
+    allowance: u64,
+    name: &[u8],
+    attribute: &mut AttributeNumbers,
+    row: &mut Row,
+) {
+    let (from, len) = (file.as_ptr(), file.len());
+    let (by, by_len) = (name.as_ptr(), name.len());
+    // SAFETY: both pointers go with the lengths of their borrowed slices.
+    unsafe { lent::las_attribute_find(from, len, allowance, by, by_len, attribute, row) }
+}
+
+/// Where an attribute's value in a point is, counted from 1; the value of the row is the number that its first eight bytes are.
+#[inline]
+pub fn las_attribute_value(
+    file: &[u8],
+    attribute: &AttributeNumbers,
+    point: u64,
+    part: &mut Span,
+    row: &mut Row,
+) {
+    // SAFETY: pointer and length are those of one borrowed slice.
+    unsafe { lent::las_attribute_value(file.as_ptr(), file.len(), attribute, point, part, row) }
+}
+
+/// These numbers of so many points from the first on, counted from 1.
+#[inline]
+pub fn las_attribute_column(
+    file: &[u8],
+    attribute: &AttributeNumbers,
+    stretch: (u64, u64),
+    dst: &mut [u64],
+    row: &mut Row,
+) {
+    let (first, count) = stretch;
+    let (from, len) = (file.as_ptr(), file.len());
+    let (to, to_len) = (dst.as_mut_ptr(), dst.len());
     // SAFETY: both pointers go with the lengths of their borrowed slices, of which the one written to is borrowed alone.
-    unsafe { lent::las_findings(file.as_ptr(), file.len(), allowance, to, to_len, row) }
+    unsafe { lent::las_attribute_column(from, len, attribute, first, count, to, to_len, row) }
+}
+
+/// The descriptor at the front of the slice.
+#[inline]
+pub fn las_descriptor_read(s: &[u8], row: &mut Row, descriptor: &mut DescriptorNumbers) {
+    let DescriptorNumbers {
+        numbers,
+        name,
+        deprecated,
+        description,
+    } = descriptor;
+    let (from, len) = (s.as_ptr(), s.len());
+    // SAFETY: pointer and length are those of one borrowed slice.
+    unsafe { lent::las_descriptor_read(from, len, row, numbers, name, deprecated, description) }
+}
+
+/// Writes a descriptor.
+#[inline]
+pub fn las_descriptor_write(descriptor: &DescriptorNumbers, dst: &mut [u8], row: &mut Row) {
+    let DescriptorNumbers {
+        numbers,
+        name,
+        deprecated,
+        description,
+    } = descriptor;
+    let (to, to_len) = (dst.as_mut_ptr(), dst.len());
+    // SAFETY: pointer and length are those of one slice, which is borrowed alone.
+    unsafe { lent::las_descriptor_write(numbers, name, deprecated, description, to, to_len, row) }
+}
+
+/// Adds a file to a site sheet; a refused one leaves it.
+#[inline]
+pub fn las_sheet_add(file: &[u8], allowance: u64, sheet: &mut SheetNumbers, row: &mut Row) {
+    // SAFETY: pointer and length are those of one borrowed slice.
+    unsafe { lent::las_sheet_add(file.as_ptr(), file.len(), allowance, sheet, row) }
 }
 
 /// Every finding of the file, four numbers each: its rule, its part, its point and its first byte; the value is how many there are.
