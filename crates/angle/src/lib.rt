@@ -1,5 +1,7 @@
 // The scan angle of a point: a rank in whole degrees (formats 0 to 5) or a scaled angle in steps of 0.006 degrees
 // (formats 6 to 10). From src/raw/point.rs of las 0.11.2, its float route replaced by document 01's exact rules.
+#![tactic(auto)]
+
 ghost use Rattle.std.specs.Prelude.{◌≡◌, pos, ◌*ℤ◌};
 ghost use Rattle.angle.specs.Angle.{nearest_rank, held, scaled_of, to_rank, to_scaled, to_degrees, from_degrees, same_angle, eq_z};
 ghost use Rattle.angle.specs.Table.{scaled_table, entry_of, to_scaled_in};
@@ -10,7 +12,7 @@ use table::SCALED;
 
 mod table;
 
-#[derive(Drop)]
+#[derive(Clone, Copy)]
 pub enum ScanAngle {
     Rank(i8),
     Scaled(i16),

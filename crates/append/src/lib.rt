@@ -1,4 +1,6 @@
 // Records added to a lent file of version 1.2 so that doing it again does no harm. From document 02, No. 1: "An append I can repeat".
+#![tactic(auto)]
+
 ghost use Rattle.std.specs.Prelude.{◌≡◌};
 ghost use Rattle.sectors.specs.Sectors.{stores_of, after_stores};
 ghost use Rattle.append.specs.Append.{appended_of};
@@ -7,7 +9,7 @@ use offer::{Offer, Sweep};
 use refusal::Refusal;
 
 // The records are added, or they stand in the file already, or why neither, with the record number of the file check's refusal.
-#[derive(Drop)]
+#[derive(Clone, Copy)]
 pub enum Appended {
     Added,
     AlreadyIn,

@@ -1,5 +1,5 @@
 -- What is promised of attributes: document 02, No. 8.
-use Rattle.std.specs.Prelude.{ℕ, ◌+◌, ◌*◌, ◌≤◌, ◌<◌, ◌≡◌, true, false, List, take, drop}
+use Rattle.std.specs.Prelude.{ℕ, ◌+◌, ◌*◌, ◌≤◌, ◌<◌, ◌≡◌, true, false, List, take, drop, length}
 use Rattle.std.proofs.Common.{ap, ◌∙◌, zero-mul, arith}
 use Rattle.std.proofs.Math.Nat.{add-zero, sub-zero}
 use Rattle.le.specs.Le.{Bytes}
@@ -41,8 +41,8 @@ pub found : (allowance : ℕ) (s name : List ℕ) {a : Attribute} → found_of a
 found allowance s name = found_then allowance name s
 
 -- "give its value in any point": the attributes of a file are told one after the other, as its descriptors stand, each with the place of its value
--- in the record; after the last there is none.
-module _ (allowance : ℕ) (s : List ℕ) (bytes : Bytes s) {c : Attributes} (b : Began allowance s c) where
+-- in the record; after the last there is none. (A file that can be lent is no longer than the bound says.)
+module _ (allowance : ℕ) (s : List ℕ) (bytes : Bytes s) (lent : length s + 65602 ≤ 9223372036854775807) {c : Attributes} (b : Began allowance s c) where
   abbrev o : Outline
   o = outline_in s
 

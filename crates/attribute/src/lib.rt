@@ -1,5 +1,7 @@
 // Attributes: the values that the extra bytes of every point of a file hold, as descriptors say, one after the other. From document 02,
 // No. 8: "Extra bytes by name".
+#![tactic(auto)]
+
 ghost use Rattle.std.specs.Prelude.{◌≡◌, ◌+◌, ◌*◌, ◌≤◌, leb, length};
 ghost use Rattle.attribute.specs.Attributes.{size_at, types_known, sizes_of, described_in, begun_in, begun_of, ended, next_of};
 ghost use Rattle.attribute.specs.Find.{Ready, named_from, searched_in, found_of};
@@ -10,7 +12,7 @@ use refusal::Refusal;
 
 // A value of every point: its type, 0 to 10, and its bytes; where the first point's stands in the file, and how far the next point's is
 // from there; the points of the file.
-#[derive(Drop)]
+#[derive(Clone, Copy)]
 pub struct Attribute {
     pub data_type: u8,
     pub size: usize,
@@ -20,7 +22,7 @@ pub struct Attribute {
 }
 
 // A place among the attributes of a file: its next descriptor, how many are left, and where the first point's value of the next stands.
-#[derive(Drop)]
+#[derive(Clone, Copy)]
 pub struct Attributes {
     pub descriptor: usize,
     pub left: usize,
@@ -30,7 +32,7 @@ pub struct Attributes {
 }
 
 // The place before the first attribute, or why there is none, with the record number of the file check's refusal.
-#[derive(Drop)]
+#[derive(Clone, Copy)]
 pub enum Begun {
     At(Attributes),
     Refused { refusal: Refusal, record: u64 },
@@ -38,7 +40,7 @@ pub enum Begun {
 
 // An attribute, where its descriptor stands in the file, and the place after it; without an attribute, an empty one and the place as it
 // was.
-#[derive(Drop)]
+#[derive(Clone, Copy)]
 pub struct Step {
     pub has: bool,
     pub attribute: Attribute,
@@ -47,14 +49,14 @@ pub struct Step {
 }
 
 // An attribute, or why there is none, with the record number of the file check's refusal.
-#[derive(Drop)]
+#[derive(Clone, Copy)]
 pub enum Found {
     Is(Attribute),
     Refused { refusal: Refusal, record: u64 },
 }
 
 // Among some descriptors, where one with a name stands, and the bytes of the values before its own.
-#[derive(Drop)]
+#[derive(Clone, Copy)]
 enum Named {
     At { descriptor: usize, place: usize },
     Nothing,

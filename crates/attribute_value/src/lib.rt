@@ -1,4 +1,6 @@
 // The values of an attribute: of one point, or of many. From document 02, No. 8: "give its value in any point with the bits as stored".
+#![tactic(auto)]
+
 ghost use Rattle.std.specs.Prelude.{◌≡◌, ◌+◌, ◌*◌, ◌≤◌, ◌<◌, min, leb, length};
 ghost use Rattle.column.specs.declared.Filled.TheVariants as filled;
 ghost use Rattle.column.specs.Column.{same, filled_of};
@@ -10,7 +12,7 @@ use column::Filled;
 use refusal::Refusal;
 
 // Where a value begins in the file, or 27 with the point count.
-#[derive(Drop)]
+#[derive(Clone, Copy)]
 pub enum Placed {
     At(usize),
     Refused(Refusal),

@@ -1,5 +1,7 @@
 // The append for C and Rust: whole, in a lent buffer; and begun, and then store by store, for whoever writes the sectors himself. A sweep
 // crosses the boundary as eight numbers: where its records go, their bytes, and the header's counts with them.
+#![tactic(auto)]
+
 ghost use Rattle.std.specs.Prelude.{◌≡◌};
 ghost use Rattle.offer.specs.Offer.{offer_of};
 ghost use Rattle.sectors.specs.Sectors.{stores_of, stored_of};

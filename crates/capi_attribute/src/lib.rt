@@ -3,6 +3,8 @@
 // the points of the file. A place among the attributes is five too, which the caller keeps: the next descriptor, how many are left, where
 // the first point's next value stands, and again how far the next point's is and the points. Of a type wider than its field the low bits
 // count. Rows are those of the crate words.
+#![tactic(auto)]
+
 ghost use Rattle.std.specs.Prelude.{◌≡◌};
 ghost use Rattle.first_vlr.specs.First.{opened_of};
 ghost use Rattle.attribute.specs.Attributes.{begun_of};

@@ -1,5 +1,7 @@
 // Columns for C and Rust, a function for each: X, Y and Z as whole numbers, by themselves or all three at once, the time as a float or by
 // its bits, the colours and near infrared. Rows are those of the crate words, and a row's value is the count of entries filled.
+#![tactic(auto)]
+
 ghost use Rattle.std.specs.Prelude.{◌≡◌};
 ghost use Rattle.std.specs.Int.{w32};
 ghost use Rattle.std.proofs.Common.{to_z};
@@ -13,8 +15,7 @@ ghost use Rattle.capi_column.specs.Rows.{filled_row, told_of};
 use column::{Axis, Channel, Filled};
 
 // X of a stretch of points, at the front of dst.
-#[unsafe(no_mangle)]
-pub extern "C" fn las_column_x(
+pub fn las_column_x(
     file: &[u8],
     allowance: u64,
     first: u64,
@@ -28,8 +29,7 @@ pub extern "C" fn las_column_x(
 }
 
 // Y of a stretch of points, at the front of dst.
-#[unsafe(no_mangle)]
-pub extern "C" fn las_column_y(
+pub fn las_column_y(
     file: &[u8],
     allowance: u64,
     first: u64,
@@ -43,8 +43,7 @@ pub extern "C" fn las_column_y(
 }
 
 // Z of a stretch of points, at the front of dst.
-#[unsafe(no_mangle)]
-pub extern "C" fn las_column_z(
+pub fn las_column_z(
     file: &[u8],
     allowance: u64,
     first: u64,
@@ -58,8 +57,7 @@ pub extern "C" fn las_column_z(
 }
 
 // The time of a stretch of points, at the front of dst.
-#[unsafe(no_mangle)]
-pub extern "C" fn las_column_time(
+pub fn las_column_time(
     file: &[u8],
     allowance: u64,
     first: u64,
@@ -73,8 +71,7 @@ pub extern "C" fn las_column_time(
 }
 
 // Its bits, at the front of dst.
-#[unsafe(no_mangle)]
-pub extern "C" fn las_column_time_bits(
+pub fn las_column_time_bits(
     file: &[u8],
     allowance: u64,
     first: u64,
@@ -88,8 +85,7 @@ pub extern "C" fn las_column_time_bits(
 }
 
 // Red of a stretch of points, at the front of dst.
-#[unsafe(no_mangle)]
-pub extern "C" fn las_column_red(
+pub fn las_column_red(
     file: &[u8],
     allowance: u64,
     first: u64,
@@ -103,8 +99,7 @@ pub extern "C" fn las_column_red(
 }
 
 // Green of a stretch of points, at the front of dst.
-#[unsafe(no_mangle)]
-pub extern "C" fn las_column_green(
+pub fn las_column_green(
     file: &[u8],
     allowance: u64,
     first: u64,
@@ -118,8 +113,7 @@ pub extern "C" fn las_column_green(
 }
 
 // Blue of a stretch of points, at the front of dst.
-#[unsafe(no_mangle)]
-pub extern "C" fn las_column_blue(
+pub fn las_column_blue(
     file: &[u8],
     allowance: u64,
     first: u64,
@@ -133,8 +127,7 @@ pub extern "C" fn las_column_blue(
 }
 
 // Near infrared of a stretch of points, at the front of dst.
-#[unsafe(no_mangle)]
-pub extern "C" fn las_column_nir(
+pub fn las_column_nir(
     file: &[u8],
     allowance: u64,
     first: u64,
@@ -148,8 +141,7 @@ pub extern "C" fn las_column_nir(
 }
 
 // X, Y and Z of a stretch of points in one pass, at the fronts of xs, ys and zs.
-#[unsafe(no_mangle)]
-pub extern "C" fn las_columns_xyz(
+pub fn las_columns_xyz(
     file: &[u8],
     allowance: u64,
     first: u64,

@@ -1,5 +1,7 @@
 // Strict conversion and upgrade of runs for C and Rust. The format is a code, as in a header; rows are those of the crate words,
 // and a row's value is the count of bytes written.
+#![tactic(auto)]
+
 ghost use Rattle.std.specs.Prelude.{◌≡◌};
 ghost use Rattle.convert.specs.Run.{to_old_of, to_new_of};
 ghost use Rattle.capi_convert.specs.Rows.{converted_row, told_of};
@@ -7,8 +9,7 @@ ghost use Rattle.capi_convert.specs.Rows.{converted_row, told_of};
 use convert::Converted;
 
 // Converts a run strictly to the old format of its pair, at the front of dst.
-#[unsafe(no_mangle)]
-pub extern "C" fn las_convert_to_old(
+pub fn las_convert_to_old(
     src: &[u8],
     format: u8,
     extra: u16,
@@ -22,8 +23,7 @@ pub extern "C" fn las_convert_to_old(
 }
 
 // Upgrades a run to the new format of its pair, at the front of dst.
-#[unsafe(no_mangle)]
-pub extern "C" fn las_convert_to_new(
+pub fn las_convert_to_new(
     src: &[u8],
     format: u8,
     extra: u16,

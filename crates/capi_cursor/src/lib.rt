@@ -4,6 +4,8 @@
 // later records and their number, and whether they are the waveform packets, which any number but 0 says. Of a number wider than its field
 // the low bits count, and any stage above 4 is 4. A part is three numbers, its kind (0 header, 1 VLR, 2 gap, 3 points, 4 EVLR,
 // 5 waveform), its first byte and its bytes. Rows are those of the crate words.
+#![tactic(auto)]
+
 ghost use Rattle.std.specs.Prelude.{◌≡◌, cond};
 ghost use Rattle.cursor.specs.Cursor.{started_of};
 ghost use Rattle.capi_cursor.specs.Numbers.{kind_number, part_numbers, stage_number, stage_from, cursor_numbers, cursor_from, started_row, stepped_row};
@@ -11,13 +13,7 @@ ghost use Rattle.capi_cursor.specs.Numbers.{kind_number, part_numbers, stage_num
 use cursor::{Cursor, Kind, Part, Plan, Stage, Started};
 
 // The cursor at the first part of the file, after the file check, whose refusals leave the cursor.
-#[unsafe(no_mangle)]
-pub extern "C" fn las_cursor_start(
-    file: &[u8],
-    allowance: u64,
-    numbers: &mut [u64; 10],
-    row: &mut [u64; 3],
-)
+pub fn las_cursor_start(file: &[u8], allowance: u64, numbers: &mut [u64; 10], row: &mut [u64; 3])
     ensures { (row.new, numbers.new) ≡ started_row numbers.old (started_of allowance file.now) }
 {
     match cursor::start(file, allowance) {
@@ -30,8 +26,7 @@ pub extern "C" fn las_cursor_start(
 }
 
 // Whether there is a part at the cursor: then the part, and the cursor after it; else both stay as they were.
-#[unsafe(no_mangle)]
-pub extern "C" fn las_cursor_next(file: &[u8], numbers: &mut [u64; 10], part: &mut [u64; 3]) -> bool
+pub fn las_cursor_next(file: &[u8], numbers: &mut [u64; 10], part: &mut [u64; 3]) -> bool
     ensures { (result, numbers.new, part.new) ≡ stepped_row file.now numbers.old part.old }
 {
     let step = cursor::next(file, cursor_from(numbers));

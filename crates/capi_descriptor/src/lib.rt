@@ -4,6 +4,8 @@
 //   name (32 bytes), the five deprecated fields one after the other (80), description (32)
 // Of a number wider than its field the low bits count, but a type above 10 is refused whatever its width. Rows are those of the
 // crate words.
+#![tactic(auto)]
+
 ghost use Rattle.std.specs.Prelude.{◌≡◌};
 ghost use Rattle.words.specs.Rows.{written_row};
 ghost use Rattle.descriptor.specs.Sizes.{size_of};

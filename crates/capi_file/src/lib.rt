@@ -1,5 +1,7 @@
 // Whole files for C and Rust: the file check, the parts, rewriting and the format of the points. A part crosses the boundary as the three numbers of the crate
 // capi_cursor. Rows are those of the crate words.
+#![tactic(auto)]
+
 ghost use Rattle.std.specs.Prelude.{◌≡◌, ◌++◌, ◌*◌, ◌≤◌, length, drop};
 ghost use Rattle.header.specs.Judged.{read_of};
 ghost use Rattle.file.specs.Rules.{checked_of};

@@ -1,4 +1,6 @@
 // The findings of a file for C and Rust. Rows are those of the crate words, and a row's value is how many findings there are.
+#![tactic(auto)]
+
 ghost use Rattle.std.specs.Prelude.{◌≡◌};
 ghost use Rattle.findings.specs.Answer.{findings_of};
 ghost use Rattle.capi_findings.specs.Rows.{findings_row};

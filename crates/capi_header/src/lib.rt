@@ -9,6 +9,8 @@
 //   34 to 50  whether there is a large file, and its count and fifteen counts by return
 //   guid (16 bytes), system identifier (32), generating software (32)
 // A number of a part that is missing is 0. Rows are those of the crate words; crate `capi_header_write` is the way back.
+#![tactic(auto)]
+
 ghost use Rattle.std.specs.Prelude.{◌≡◌};
 ghost use Rattle.header.specs.Header.{default_header, end_of_points};
 ghost use Rattle.header.specs.Judged.{standard_of, read_of};
@@ -18,8 +20,7 @@ use header::{EndOfPoints, Header, HeaderAnswer, OptionEvlr, OptionU64, StandardS
 use le::float;
 
 // The header at the front of s; the row's value is where it ends with its padding. Refused, it leaves all but the row.
-#[unsafe(no_mangle)]
-pub extern "C" fn las_header_read(
+pub fn las_header_read(
     s: &[u8],
     row: &mut [u64; 3],
     numbers: &mut [u64; 51],
@@ -48,8 +49,7 @@ pub extern "C" fn las_header_read(
 }
 
 // Where the header's padding starts in s, and how many bytes it has; two zeros where there is none, as where the header is refused.
-#[unsafe(no_mangle)]
-pub extern "C" fn las_header_padding(s: &[u8], part: &mut [u64; 2])
+pub fn las_header_padding(s: &[u8], part: &mut [u64; 2])
     ensures { part.new ≡ padding_part s.now }
 {
     let read = Header::read_from(s);
@@ -59,8 +59,7 @@ pub extern "C" fn las_header_padding(s: &[u8], part: &mut [u64; 2])
 }
 
 // How many points the header at the front of s counts.
-#[unsafe(no_mangle)]
-pub extern "C" fn las_header_points(s: &[u8], row: &mut [u64; 3])
+pub fn las_header_points(s: &[u8], row: &mut [u64; 3])
     ensures { row.new ≡ points_row (read_of s.now) }
 {
     let read = Header::read_from(s);
@@ -75,8 +74,7 @@ pub extern "C" fn las_header_points(s: &[u8], row: &mut [u64; 3])
 }
 
 // The first byte after the points, by the header at the front of s.
-#[unsafe(no_mangle)]
-pub extern "C" fn las_header_end_of_points(s: &[u8], row: &mut [u64; 3])
+pub fn las_header_end_of_points(s: &[u8], row: &mut [u64; 3])
     ensures { row.new ≡ end_row (read_of s.now) }
 {
     let read = Header::read_from(s);
@@ -89,8 +87,7 @@ pub extern "C" fn las_header_end_of_points(s: &[u8], row: &mut [u64; 3])
 }
 
 // The bytes of a header of this version without padding.
-#[unsafe(no_mangle)]
-pub extern "C" fn las_header_size(major: u8, minor: u8, row: &mut [u64; 3])
+pub fn las_header_size(major: u8, minor: u8, row: &mut [u64; 3])
     ensures { row.new ≡ size_row (standard_of (record { major = major; minor = minor })) }
 {
     let version = Version { major, minor };
@@ -101,8 +98,7 @@ pub extern "C" fn las_header_size(major: u8, minor: u8, row: &mut [u64; 3])
 }
 
 // The Rust's default header.
-#[unsafe(no_mangle)]
-pub extern "C" fn las_header_default(
+pub fn las_header_default(
     numbers: &mut [u64; 51],
     guid: &mut [u8; 16],
     system: &mut [u8; 32],

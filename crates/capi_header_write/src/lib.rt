@@ -1,6 +1,8 @@
 // Headers written for C and Rust, from the 51 numbers and three texts that crate `capi_header` lists. A number of a part
 // that is missing is ignored; of a number wider than its field the low bits count. Apart from `capi_header` because together
 // they would be checked for a minute.
+#![tactic(auto)]
+
 ghost use Rattle.std.specs.Prelude.{◌≡◌, get_or};
 ghost use Rattle.le.specs.Real.{f64_of};
 ghost use Rattle.header_write.specs.Wrote.{wrote_of};
@@ -14,8 +16,7 @@ use words::{low8, low16, low32, nth};
 
 // Writes the header of 51 numbers and three texts, and then its padding, to the front of dst; the row's value is the count
 // of bytes.
-#[unsafe(no_mangle)]
-pub extern "C" fn las_header_write(
+pub fn las_header_write(
     numbers: &[u64; 51],
     guid: &[u8; 16],
     system: &[u8; 32],

@@ -2,6 +2,8 @@
 // there are, of which the low 16 bits count, the first byte and the bytes of their directory, and the first byte of the doubles and of the
 // text. A key is five numbers: the key, its location (0, 34736 or 34737), its value where the location is 0, and else the first byte and the
 // bytes of its part of the doubles or of the text; what it does not have is 0. Rows are those of the crate words.
+#![tactic(auto)]
+
 ghost use Rattle.std.specs.Prelude.{◌≡◌};
 ghost use Rattle.words.specs.Rows.{written_row};
 ghost use Rattle.keys.specs.Keys.{opened_of, key_at_of, found_of, got_of};

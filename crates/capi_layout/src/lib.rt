@@ -1,6 +1,8 @@
 // Where each field of a point record stands, for C and Rust. A layout crosses the boundary as 26 numbers: for each field in the
 // order X, Y, Z, intensity, flags, user data, scan angle, source id, time, colour, near infrared, waveform, extra bytes its first
 // byte and its bytes, which are 0 where the format lacks it. A format is a word of the crate words.
+#![tactic(auto)]
+
 ghost use Rattle.std.specs.Prelude.{◌≡◌, cond};
 ghost use Rattle.words.specs.Words.{format_of_word};
 ghost use Rattle.format.specs.Fields.{size_of};

@@ -1,5 +1,7 @@
 // Whole files to the other version and back, for C and Rust: the question, without a destination, and the writing call, each way. Rows are
 // those of the crate words, and a row's value is the count of bytes of the new file.
+#![tactic(auto)]
+
 ghost use Rattle.std.specs.Prelude.{◌≡◌, true, false};
 ghost use Rattle.migrate.specs.Migrate.{file_verdict, migrated_of};
 ghost use Rattle.capi_ask.specs.Rows.{asked_row};

@@ -7,6 +7,8 @@
 //   16 to 23  whether there is a waveform, and index, offset, size, location, x_t, y_t, z_t
 // A number of a part that is missing is 0 going out and ignored coming in; of a number wider than its field the low bits
 // count. Words and rows are those of the crate words.
+#![tactic(auto)]
+
 ghost use Rattle.std.specs.Prelude.{◌≡◌, get_or};
 ghost use Rattle.words.specs.Words.{format_of_word};
 ghost use Rattle.point.specs.Read.{read_of};
@@ -22,8 +24,7 @@ use point::{
 use words::{low8, low16, low32, nth};
 
 // The point in the first bytes of s, as 24 numbers; where it is refused they stay as they were.
-#[unsafe(no_mangle)]
-pub extern "C" fn las_point_read(s: &[u8], format: u32, row: &mut [u64; 3], numbers: &mut [u64; 24])
+pub fn las_point_read(s: &[u8], format: u32, row: &mut [u64; 3], numbers: &mut [u64; 24])
     ensures { (row.new, numbers.new) ≡ read_row numbers.old (read_of (format_of_word format) s.now) }
 {
     match Point::read_from(s, words::format_of(format)) {
@@ -36,8 +37,7 @@ pub extern "C" fn las_point_read(s: &[u8], format: u32, row: &mut [u64; 3], numb
 }
 
 // Where the point's extra bytes start in s, and how many there are; two zeros where there are none, as where the read is refused.
-#[unsafe(no_mangle)]
-pub extern "C" fn las_point_extra(s: &[u8], format: u32, part: &mut [u64; 2])
+pub fn las_point_extra(s: &[u8], format: u32, part: &mut [u64; 2])
     ensures { part.new ≡ extra_part (format_of_word format) s.now }
 {
     let of_word = words::format_of(format);
@@ -47,8 +47,7 @@ pub extern "C" fn las_point_extra(s: &[u8], format: u32, part: &mut [u64; 2])
 }
 
 // Writes the point of 24 numbers and its extra bytes to the front of dst; the row's value is the count of bytes.
-#[unsafe(no_mangle)]
-pub extern "C" fn las_point_write(
+pub fn las_point_write(
     numbers: &[u64; 24],
     extra: &[u8],
     format: u32,
@@ -259,7 +258,7 @@ fn nir_from(n: &[u64]) -> MaybeNir
 }
 
 // The bits of a waveform's four floats.
-#[derive(Drop)]
+#[derive(Clone, Copy)]
 struct Bits {
     location: u32,
     x_t: u32,

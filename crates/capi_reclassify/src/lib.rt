@@ -1,5 +1,7 @@
 // One point's class for C and Rust: set in a lent file; and asked about, for whoever writes the one byte to a device himself. Rows are those
 // of the crate words, and a row's value is the class that the point had.
+#![tactic(auto)]
+
 ghost use Rattle.std.specs.Prelude.{◌≡◌};
 ghost use Rattle.reclassify.specs.Reclassify.{asked_of, reclassified_of};
 ghost use Rattle.capi_reclassify.specs.Rows.{asked_row, reclassified_row};

@@ -1,5 +1,7 @@
 // One record of the strict conversion and of the upgrade for C and Rust: a point is the 24 numbers of the crate capi_point, and
 // rows are those of the crate words.
+#![tactic(auto)]
+
 ghost use Rattle.std.specs.Prelude.{◌≡◌};
 ghost use Rattle.point.specs.Read.{no_point};
 ghost use Rattle.strict.specs.Fit.{fit_of};

@@ -1,6 +1,8 @@
 // VLRs and EVLRs for C and Rust. A record's head crosses the boundary as three numbers, its reserved number, its record id
 // and the length that it states, and beside them its user id and its description. Of a reserved number or a record id wider than
 // its field the low bits count; a length wider than its field is refused. Rows are those of the crate words.
+#![tactic(auto)]
+
 ghost use Rattle.std.specs.Prelude.{◌≡◌, false, get_or};
 ghost use Rattle.vlr.specs.Layout.{head_size};
 ghost use Rattle.vlr.specs.Vlr.{stated_of, extent_of, no_vlr, read_of};
@@ -12,8 +14,7 @@ use vlr::{Extent, RecordLength, StatedLength, Vlr};
 
 // The head of the record at the start of s; the row's value is the bytes of the record, head and data. Where it is refused
 // the numbers, the user id and the description stay as they were.
-#[unsafe(no_mangle)]
-pub extern "C" fn las_vlr_read(
+pub fn las_vlr_read(
     s: &[u8],
     extended: bool,
     row: &mut [u64; 3],
@@ -40,8 +41,7 @@ pub extern "C" fn las_vlr_read(
 }
 
 // Where the record's data starts in s, and how many bytes it has; two zeros where there is none, as where the read is refused.
-#[unsafe(no_mangle)]
-pub extern "C" fn las_vlr_data(s: &[u8], extended: bool, part: &mut [u64; 2])
+pub fn las_vlr_data(s: &[u8], extended: bool, part: &mut [u64; 2])
     ensures { part.new ≡ data_part extended s.now }
 {
     let data = vlr::data(s, extended);
@@ -50,8 +50,7 @@ pub extern "C" fn las_vlr_data(s: &[u8], extended: bool, part: &mut [u64; 2])
 
 // Writes the record and its data to the front of dst; the row's value is the count of bytes. A VLR's stated length that has more
 // than 16 bits is refused with 24, as is one that the data has not.
-#[unsafe(no_mangle)]
-pub extern "C" fn las_vlr_write(
+pub fn las_vlr_write(
     extended: bool,
     numbers: &[u64; 3],
     user_id: &[u8; 16],
@@ -74,8 +73,7 @@ pub extern "C" fn las_vlr_write(
 }
 
 // How many bytes the record at the start of s takes, head and data, without reading the rest of its head.
-#[unsafe(no_mangle)]
-pub extern "C" fn las_vlr_measure(s: &[u8], extended: bool, row: &mut [u64; 3])
+pub fn las_vlr_measure(s: &[u8], extended: bool, row: &mut [u64; 3])
     ensures { row.new ≡ extent_row (extent_of extended s.now) }
 {
     match vlr::measure(s, extended) {
@@ -85,16 +83,14 @@ pub extern "C" fn las_vlr_measure(s: &[u8], extended: bool, row: &mut [u64; 3])
 }
 
 // The bytes of a head.
-#[unsafe(no_mangle)]
-pub extern "C" fn las_vlr_head_size(extended: bool) -> u64
+pub fn las_vlr_head_size(extended: bool) -> u64
     ensures { result ≡ head_size extended }
 {
     vlr::head_size(extended) as u64
 }
 
 // The length that the head at the start of s states; refused with 1 where the head is not all there.
-#[unsafe(no_mangle)]
-pub extern "C" fn las_vlr_stated(s: &[u8], extended: bool, row: &mut [u64; 3])
+pub fn las_vlr_stated(s: &[u8], extended: bool, row: &mut [u64; 3])
     ensures { row.new ≡ stated_row (stated_of extended s.now) }
 {
     match vlr::stated(s, extended) {
@@ -104,12 +100,7 @@ pub extern "C" fn las_vlr_stated(s: &[u8], extended: bool, row: &mut [u64; 3])
 }
 
 // The Rust's default record.
-#[unsafe(no_mangle)]
-pub extern "C" fn las_vlr_default(
-    numbers: &mut [u64; 3],
-    user_id: &mut [u8; 16],
-    description: &mut [u8; 32],
-)
+pub fn las_vlr_default(numbers: &mut [u64; 3], user_id: &mut [u8; 16], description: &mut [u8; 32])
     ensures { (numbers.new, user_id.new, description.new) ≡ lent_of no_vlr }
 {
     let vlr = Vlr::default();

@@ -1,5 +1,5 @@
 -- A walker's place as seven numbers, both ways, and the rows of its steps.
-use Rattle.std.specs.Prelude.{ℕ, ◌%◌, cond, List, [], ◌∷◌, eqb, get_or, length}
+use Rattle.std.specs.Prelude.{ℕ, ◌%◌, ◌≡◌, refl, cond, List, [], ◌∷◌, eqb, get_or, length}
 use Rattle.refusal.specs.declared.Row.{Row}
 use Rattle.refusal.specs.Table.{row_of}
 use Rattle.words.specs.Words.{format_of_word, format_word}
@@ -18,11 +18,10 @@ start_row start.Accepted = record { number = 0; value = 0; «record» = 0 }
 start_row (start.Refused r k) = row_of r k
 
 -- a place as seven numbers, and the place of seven numbers
-unfoldable pub place_with : Place → Row → List ℕ
-place_with p told = format_word p.format ∷ p.at ∷ p.left ∷ p.count ∷ told.number ∷ told.value ∷ told.«record» ∷ []
-
-abbrev pub place_numbers : Place → List ℕ
-place_numbers p = place_with p (start_row p.start)
+unfoldable pub place_numbers : Place → List ℕ
+place_numbers p =
+    let told = start_row p.start in
+    format_word p.format ∷ p.at ∷ p.left ∷ p.count ∷ told.number ∷ told.value ∷ told.«record» ∷ []
 
 unfoldable pub place_from : List ℕ → Place
 place_from n =
@@ -43,3 +42,11 @@ next_row s n numbers =
 -- the place and the count of the next record's bytes; two zeros where there is none, as in a refused walk
 unfoldable pub record_part : List ℕ → List ℕ → List ℕ
 record_part s n = cond (eqb (get_or n 4 0) 0) (part_row (get_or n 1 0) (length (record_of s (place_from n)))) (0 ∷ 0 ∷ [])
+
+-- a place as seven numbers, where the row of how the walk began is known
+unfoldable pub place_with : Place → Row → List ℕ
+place_with p told = format_word p.format ∷ p.at ∷ p.left ∷ p.count ∷ told.number ∷ told.value ∷ told.«record» ∷ []
+
+pub with-start : (p : Place) → place_with p (start_row p.start) ≡ place_numbers p
+unfolding place_with place_numbers
+with-start p = refl

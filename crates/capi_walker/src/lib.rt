@@ -3,6 +3,8 @@
 // number, value and record number; where it did not, three zeros. Rows are those of the crate words, and a point is the 24 numbers
 // of the crate capi_point. A crate of its own, apart from capi_file: each static library then reads points in one place, where the
 // compiler puts the reader itself and no call.
+#![tactic(auto)]
+
 ghost use Rattle.std.specs.Prelude.{◌≡◌};
 ghost use Rattle.walker.specs.Begin.{begin_of};
 ghost use Rattle.capi_walker.specs.Rows.{start_row, place_with, place_numbers, place_from, next_row, record_part};
@@ -15,9 +17,7 @@ use walker::{Place, Start, Walked};
 pub extern "C" fn las_file_walker(file: &[u8], allowance: u64, place: &mut [u64; 7])
     ensures { place.new ≡ place_numbers (begin_of allowance file.now) }
 {
-    let begun = walker::begin(file, allowance);
-    let start = begun.start;
-    *place = numbers_with(begun, start_row(start));
+    *place = place_numbers(walker::begin(file, allowance));
 }
 
 // The next point as 24 numbers, and the place after it; a place with a refusal repeats it, and else, at the end, 27 with the
@@ -59,6 +59,14 @@ pub extern "C" fn las_file_record(file: &[u8], place: &[u64; 7], part: &mut [u64
     }
     let record = walker::record_at(file, place_from(place));
     words::tell_part(part, place[1], record.len() as u64)
+}
+
+// A place as seven numbers.
+fn place_numbers(place: Place) -> [u64; 7]
+    ensures { result ≡ place_numbers place }
+{
+    let start = place.start;
+    numbers_with(place, start_row(start))
 }
 
 // A place as seven numbers, with the row of how the walk began. A step has that row without asking, and goes by no table of refusals.

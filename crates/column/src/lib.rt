@@ -1,4 +1,6 @@
 // Columns: one field of many points, each number taken straight from its place in its record. Added by document 02, No. 6.
+#![tactic(auto)]
+
 ghost use Rattle.std.specs.Prelude.{◌≡◌, ◌+◌, ◌*◌, ◌^◌, ◌≤◌, ◌<◌, length};
 ghost use Rattle.std.specs.Int.{w32};
 ghost use Rattle.std.proofs.Common.{to_z};
@@ -11,7 +13,7 @@ use refusal::Refusal;
 use walker::Start;
 
 // The fields of four bytes, signed.
-#[derive(Drop)]
+#[derive(Clone, Copy)]
 pub enum Axis {
     X,
     Y,
@@ -19,7 +21,7 @@ pub enum Axis {
 }
 
 // The fields of two bytes.
-#[derive(Drop)]
+#[derive(Clone, Copy)]
 pub enum Channel {
     Red,
     Green,
@@ -28,7 +30,7 @@ pub enum Channel {
 }
 
 // A field that there are columns of; the time has eight bytes.
-#[derive(Drop)]
+#[derive(Clone, Copy)]
 pub enum Column {
     Axis(Axis),
     Time,
@@ -36,7 +38,7 @@ pub enum Column {
 }
 
 // How many entries were filled, or why none were, with the record number of the file check's refusal.
-#[derive(Drop)]
+#[derive(Clone, Copy)]
 pub enum Filled {
     Entries(u64),
     Refused { refusal: Refusal, record: u64 },
@@ -44,7 +46,7 @@ pub enum Filled {
 
 // What a column answers, and where its numbers stand in the file: the first at `at`, each other `stride` bytes after the one
 // before it. Where it is refused there are none.
-#[derive(Drop)]
+#[derive(Clone, Copy)]
 pub struct Stretch {
     pub answer: Filled,
     pub at: usize,

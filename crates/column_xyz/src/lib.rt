@@ -1,4 +1,6 @@
 // X, Y and Z of many points in one pass over their records, for document 02, No. 7: what the three columns of the crate column leave.
+#![tactic(auto)]
+
 ghost use Rattle.std.specs.Prelude.{◌≡◌, ◌≤◌, min, length};
 ghost use Rattle.column.specs.Column.{Lie};
 ghost use Rattle.column_xyz.specs.Xyz.{filled_xyz, xyz_of};

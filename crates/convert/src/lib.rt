@@ -1,5 +1,7 @@
 // Runs of point records, converted strictly down to an old format and upgraded to a new one, as document 01 adds. A call asks first
 // whether the whole run goes, which `judge` answers without a destination, and only then writes its first byte.
+#![tactic(auto)]
+
 ghost use Rattle.std.specs.Prelude.{◌≡◌, ◌++◌, ◌*◌, ◌≤◌, length, drop};
 ghost use Rattle.angle.specs.Angle.{to_scaled};
 ghost use Rattle.angle.specs.Table.{scaled_table, to_scaled_in};
@@ -15,7 +17,7 @@ use point::{Point, PointRead};
 use refusal::Refusal;
 
 // The bytes written, or a refusal with its record number.
-#[derive(Drop)]
+#[derive(Clone, Copy)]
 pub enum Converted {
     Bytes(usize),
     Refused { refusal: Refusal, record: u64 },

@@ -1,5 +1,7 @@
 // The parts of a file, told one after the other in file order: the header with its padding, the VLRs, a gap, the points, a
 // gap, the later records and the gap after them; empty gaps are left out.
+#![tactic(auto)]
+
 ghost use Rattle.std.specs.Prelude.{◌≡◌, ◌<◌, ◌-◌};
 ghost use Rattle.extents.specs.Extents.{points_end};
 ghost use Rattle.cursor.specs.Parts.{between, later_kind, later_start};
@@ -11,7 +13,7 @@ use refusal::Refusal;
 use rules::Checked;
 use vlr::Extent;
 
-#[derive(Drop)]
+#[derive(Clone, Copy)]
 pub enum Kind {
     Header,
     Vlr,
@@ -22,7 +24,7 @@ pub enum Kind {
 }
 
 // A part: what it is, its first byte and its bytes.
-#[derive(Drop)]
+#[derive(Clone, Copy)]
 pub struct Part {
     pub kind: Kind,
     pub start: u64,
@@ -31,7 +33,7 @@ pub struct Part {
 
 // The numbers of an outline that a cursor goes by: the first byte of the points and the one after them, and the later records'; where
 // there are none, these start at the end of the points.
-#[derive(Drop)]
+#[derive(Clone, Copy)]
 pub struct Plan {
     pub header_size: u64,
     pub number_of_vlrs: u32,
@@ -43,7 +45,7 @@ pub struct Plan {
 }
 
 // What is told next: the header, a VLR or the gap after them, the points, the gap after them, a later record or the last gap.
-#[derive(Drop)]
+#[derive(Clone, Copy)]
 pub enum Stage {
     Header,
     Vlrs,
@@ -53,7 +55,7 @@ pub enum Stage {
 }
 
 // A place in a file, and how many records are left of its stage.
-#[derive(Drop)]
+#[derive(Clone, Copy)]
 pub struct Cursor {
     pub stage: Stage,
     pub at: u64,
@@ -62,14 +64,14 @@ pub struct Cursor {
 }
 
 // The cursor at the first part, or the file check's refusal with its record number.
-#[derive(Drop)]
+#[derive(Clone, Copy)]
 pub enum Started {
     At(Cursor),
     Refused { refusal: Refusal, record: u64 },
 }
 
 // A part and the cursor after it; without a part, an empty one and the cursor as it was.
-#[derive(Drop)]
+#[derive(Clone, Copy)]
 pub struct Step {
     pub has: bool,
     pub part: Part,

@@ -1,6 +1,8 @@
 // Descriptors of extra bytes: 192 bytes for each attribute that the points of a file have beyond their format, in the VLR with
 // user id LASF_Spec and record 4. LAS 1.4 R15, "Extra Bytes"; document 02, No. 8. Every byte is kept, deprecated fields too, and
 // numbers that the standard reads by the type (no data, min, max, scale, offset) are their bits as stored.
+#![tactic(auto)]
+
 ghost use Rattle.std.specs.Prelude.{◌≡◌, ◌≤◌, length};
 ghost use Rattle.fields.specs.Table.{Stored};
 ghost use Rattle.descriptor.specs.Layout.{fields, width, place, descriptor_size};
@@ -10,7 +12,7 @@ ghost use Rattle.descriptor.specs.Descriptor.{descriptor_of, no_descriptor, desc
 use lent::Wrote;
 use refusal::Refusal;
 
-#[derive(Drop)]
+#[derive(Clone, Copy)]
 pub struct Descriptor {
     pub reserved: u16,
     pub data_type: u8,
@@ -31,14 +33,14 @@ pub struct Descriptor {
 }
 
 // Whether a descriptor is read, or why not.
-#[derive(Drop)]
+#[derive(Clone, Copy)]
 pub enum Described {
     Whole,
     Refused(Refusal),
 }
 
 // The answer, and beside it the descriptor; one of zeros where the answer is a refusal.
-#[derive(Drop)]
+#[derive(Clone, Copy)]
 pub struct DescriptorRead {
     pub answer: Described,
     pub descriptor: Descriptor,

@@ -1,4 +1,6 @@
 // The directory of a file's coordinate keys: numbers of two bytes, four in front and four for each key. Added by document 02, No. 14.
+#![tactic(auto)]
+
 ghost use Rattle.std.specs.Prelude.{◌≡◌};
 ghost use Rattle.directory.specs.Directory.{entry_of, rising_at, known, record_for, bytes_of, there, within, passes, every, judged_of, place_of, key_of};
 
@@ -6,7 +8,7 @@ use refusal::Refusal;
 
 // What a directory says of a key: the record that its value stands in, 0 where it is no other, how many there are, and the index of the
 // first or the value itself.
-#[derive(Drop)]
+#[derive(Clone, Copy)]
 pub struct Entry {
     pub key: u16,
     pub location: u16,
@@ -15,14 +17,14 @@ pub struct Entry {
 }
 
 // A record that values of keys stand in: how many bytes it holds.
-#[derive(Drop)]
+#[derive(Clone, Copy)]
 pub enum Target {
     Bytes(usize),
     Absent,
 }
 
 // What is asked of each entry of a directory.
-#[derive(Drop)]
+#[derive(Clone, Copy)]
 pub enum Question {
     Rising,
     Known,
@@ -31,7 +33,7 @@ pub enum Question {
 }
 
 // How many keys a directory has, or why it is refused.
-#[derive(Drop)]
+#[derive(Clone, Copy)]
 pub enum Judged {
     Keys(u16),
     Refused(Refusal),

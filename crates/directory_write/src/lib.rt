@@ -1,5 +1,7 @@
 // A directory of coordinate keys written from its numbers, four for each key: key, location, count, value or index. Added by document 02,
 // No. 14.
+#![tactic(auto)]
+
 ghost use Rattle.std.specs.Prelude.{◌≡◌, ◌+◌, ◌*◌, ◌≤◌, length};
 ghost use Rattle.std.proofs.lemmas.List.Edits.{sets};
 ghost use Rattle.directory.specs.Directory.{rising_at, every};

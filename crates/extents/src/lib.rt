@@ -1,4 +1,6 @@
 // Where the parts of a file end: document 01, "When a file is accepted", rules 2 to 8 of a header's outline.
+#![tactic(auto)]
+
 ghost use Rattle.std.specs.Prelude.{◌≡◌, ◌∷◌};
 ghost use Rattle.rules.specs.declared.Checked.TheVariants as checked;
 ghost use Rattle.rules.specs.Rules.{first};

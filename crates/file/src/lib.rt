@@ -1,4 +1,6 @@
 // The file check: document 01, "When a file is accepted", rules 1 to 8 in their order.
+#![tactic(auto)]
+
 ghost use Rattle.std.specs.Prelude.{◌≡◌, ◌-◌};
 ghost use Rattle.file.specs.Rules.{checked_of};
 ghost use Rattle.file.specs.Points.{point_format};

@@ -1,11 +1,13 @@
 // One finding, told into a lent buffer of numbers, and the rules that speak of a header's counters and of texts: document 02, No. 12.
+#![tactic(auto)]
+
 ghost use Rattle.std.specs.Prelude.{◌≡◌, ◌≤◌};
 ghost use Rattle.finding.specs.Told.{plus, stored, told};
 ghost use Rattle.finding.specs.Rules.{spot, unlike, when, text_at, legacy_first, legacy_at, legacies, large_at, larges, counters};
 
 // The rule that is broken, 1 to 5 in document 02's order; the entry of the part table where, from 1; the point, from 1, or 0; and the
 // first byte of the counter, the text or the point's record.
-#[derive(Drop)]
+#[derive(Clone, Copy)]
 pub struct Finding {
     pub rule: u64,
     pub part: u64,

@@ -35,6 +35,7 @@ use Rattle.findings.specs.Broken.{Among, Entry, TextField, point_place, mark_at,
 module _ (f : Finding) where
   -- among two lists
   among_left : (fs gs : List Finding) → Among f fs → Among f (fs ++ gs)
+  among_left [] gs a = absurd a
   among_left (g ∷ fs) gs (inl e) = inl e
   among_left (g ∷ fs) gs (inr a) = inr (among_left fs gs a)
 

@@ -28,6 +28,7 @@ not_self f g is (inl less) = let same : f.at ≡ g.at = ap (λ (x : Finding). x.
 not_self f g is (inr (at, less)) = let same : f.rule ≡ g.rule = ap (λ (x : Finding). x.rule) is in omega arith
 
 not_among : (f g : Finding) (gs : List Finding) → f ≡ g → BeforeAll g gs → Among f gs → ⊥
+not_among f g [] is b a = absurd a
 not_among f g (h ∷ gs) is (b, bs) (inl same) = not_self f h same (subst (λ (x : Finding). Before x h) (sym is) b)
 not_among f g (h ∷ gs) is (b, bs) (inr a) = not_among f g gs is bs a
 
@@ -41,5 +42,6 @@ before-some x f [] ys (b, bs) = b
 before-some x f (y ∷ xs) ys (b, bs) = before-some x f xs ys bs
 
 pub none_before : (f : Finding) (xs ys : List Finding) → InOrder (xs ++ (f ∷ ys)) → Among f xs → ⊥
+none_before f [] ys o a = absurd a
 none_before f (x ∷ xs) ys (b, o) (inl is) = not_self x f (sym is) (before-some x f xs ys b)
 none_before f (x ∷ xs) ys (b, o) (inr a) = none_before f xs ys o a

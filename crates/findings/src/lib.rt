@@ -1,5 +1,7 @@
 // What is wrong with an accepted file that another program wrote: document 02, No. 12. A finding is its rule, its part, its point and its
 // first byte, and they are told in file order.
+#![tactic(auto)]
+
 ghost use Rattle.std.specs.Prelude.{◌≡◌, ◌+◌, ◌*◌, ◌≤◌, length};
 ghost use Rattle.cursor.specs.Cursor.{left_of};
 ghost use Rattle.finding.specs.Told.{told};
@@ -13,7 +15,7 @@ use refusal::Refusal;
 use returns::Survey;
 
 // How many findings there are, or why none are told, with the record number of the file check's refusal.
-#[derive(Drop)]
+#[derive(Clone, Copy)]
 pub enum Answer {
     Found(u64),
     Refused { refusal: Refusal, record: u64 },

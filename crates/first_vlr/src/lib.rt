@@ -1,4 +1,6 @@
 // The first VLR of a file with a user id and a record id. From document 02, No. 8 and No. 14: "The first such VLR counts".
+#![tactic(auto)]
+
 ghost use Rattle.std.specs.Prelude.{◌≡◌, ◌+◌, ◌≤◌, length, drop};
 ghost use Rattle.first_vlr.specs.First.{opened_of, first_from, first_of, is_of};
 
@@ -9,14 +11,14 @@ use rules::Checked;
 use vlr::Extent;
 
 // What the header of an accepted file says of its parts, or the file check's refusal with its record number.
-#[derive(Drop)]
+#[derive(Clone, Copy)]
 pub enum Opened {
     File(Outline),
     Refused { refusal: Refusal, record: u64 },
 }
 
 // The data of a VLR: its first byte in the file and its bytes.
-#[derive(Drop)]
+#[derive(Clone, Copy)]
 pub enum FirstVlr {
     At { start: usize, length: usize },
     Nothing,

@@ -1,5 +1,7 @@
 // The flags of a point record: return numbers, class, overlap and the rest, in two bytes (formats 0 to 5) or three
 // (formats 6 to 10). From src/raw/point.rs of las 0.11.2; `/` and `%` by powers of two stand for its shifts and masks.
+#![tactic(auto)]
+
 ghost use Rattle.std.specs.Prelude.{◌≡◌, cond};
 ghost use Rattle.flags.specs.Readings.{bit, return_number_of, number_of_returns_of, direction_of, synthetic_of, key_point_of, withheld_of, overlap_of, channel_of, edge_of, class_of};
 ghost use Rattle.flags.specs.Bytes.{two_bytes_of, three_bytes_of, cleared_of, same_of};
@@ -11,21 +13,21 @@ const OVERLAP_CLASSIFICATION_CODE: u8 = 12;
 
 const UNCLASSIFIED: u8 = 1;
 
-#[derive(Drop)]
+#[derive(Clone, Copy)]
 pub enum Flags {
     TwoByte(u8, u8),
     ThreeByte(u8, u8, u8),
 }
 
 // The direction at which the scanner mirror was traveling at the time of pulse output.
-#[derive(Drop)]
+#[derive(Clone, Copy)]
 pub enum ScanDirection {
     RightToLeft,
     LeftToRight,
 }
 
 // The bytes of three-byte flags.
-#[derive(Drop)]
+#[derive(Clone, Copy)]
 pub struct ThreeBytes {
     pub a: u8,
     pub b: u8,
@@ -33,7 +35,7 @@ pub struct ThreeBytes {
 }
 
 // The bytes of two-byte flags, or why there are none.
-#[derive(Drop)]
+#[derive(Clone, Copy)]
 pub enum TwoBytes {
     Bytes(u8, u8),
     Refused(Refusal),

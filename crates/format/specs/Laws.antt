@@ -72,9 +72,21 @@ module _ (f : Format) where
       (follow_only f.has_nir Nir (place_of f Nir) _ refl
       (follow_only f.has_waveform Waveform (place_of f Waveform) _ refl refl)))
 
+  -- a field at its place, and what follows it
+  follow_next : (x : Field) (at next : ℕ) (xs : List Field) → place_of f x ≡ at → at + size_of f x ≡ next → Follows next xs → Follows at (x ∷ xs)
+  follow_next x at next xs e s r = rw s (λ i. e i ∷ r i)
+
   middle_follow : (e : Bool) → f.is_extended ≡ e → Follows (14 + cond e 3 2) (cond e (UserData ∷ ScanAngle ∷ []) (ScanAngle ∷ UserData ∷ []) ++ (PointSourceId ∷ rest_of f))
-  middle_follow true h = let r = rest_follow in rw h (λ i. 17 ∷ 18 ∷ 20 ∷ (rw h at r) i)
-  middle_follow false h = let r = rest_follow in rw h (λ i. 16 ∷ 17 ∷ 18 ∷ (rw h at r) i)
+  middle_follow true h =
+      let p : place_of f GpsTime ≡ 22 = rw h in
+      follow_next UserData 17 18 (ScanAngle ∷ PointSourceId ∷ rest_of f) refl refl
+      (follow_next ScanAngle 18 20 (PointSourceId ∷ rest_of f) (rw h) (rw h)
+      (follow_next PointSourceId 20 22 (rest_of f) (rw h) refl (rw p at rest_follow)))
+  middle_follow false h =
+      let p : place_of f GpsTime ≡ 20 = rw h in
+      follow_next ScanAngle 16 17 (UserData ∷ PointSourceId ∷ rest_of f) (rw h) (rw h)
+      (follow_next UserData 17 18 (PointSourceId ∷ rest_of f) refl refl
+      (follow_next PointSourceId 18 20 (rest_of f) (rw h) refl (rw p at rest_follow)))
 
   -- the fields of a record follow each other from its first byte on
   pub fields_follow : Follows 0 (fields_of f)

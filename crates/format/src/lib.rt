@@ -1,6 +1,8 @@
 // Point formats: which fields a point record has. From src/point/format.rs of las 0.11.2, and `Field` from its
 // src/raw/point.rs, since a format's length is the sum of its fields' sizes and crates do not depend on each other in a
 // circle.
+#![tactic(auto)]
+
 ghost use Rattle.std.specs.Prelude.{◌≡◌, true, false, cond, ◌≤◌};
 ghost use Rattle.format.specs.Codes.{is_in, coded, format_of, code_by, code_of};
 ghost use Rattle.format.specs.Fields.{size_of, len_of};
@@ -16,7 +18,7 @@ const WAVEFORM_FORMATS: [u8; 4] = [4, 5, 9, 10];
 
 const NIR_FORMATS: [u8; 2] = [8, 10];
 
-#[derive(Drop)]
+#[derive(Clone, Copy)]
 pub struct Format {
     pub has_gps_time: bool,
     pub has_color: bool,
@@ -28,7 +30,7 @@ pub struct Format {
 }
 
 // A single field of a point record.
-#[derive(Drop)]
+#[derive(Clone, Copy)]
 pub enum Field {
     X,
     Y,
@@ -48,19 +50,19 @@ pub enum Field {
     ExtraBytes,
 }
 
-#[derive(Drop)]
+#[derive(Clone, Copy)]
 pub enum NewFormat {
     Is(Format),
     Refused(Refusal),
 }
 
-#[derive(Drop)]
+#[derive(Clone, Copy)]
 pub enum FormatLen {
     Is(u16),
     Refused(Refusal),
 }
 
-#[derive(Drop)]
+#[derive(Clone, Copy)]
 pub enum FormatCode {
     Is(u8),
     Refused(Refusal),

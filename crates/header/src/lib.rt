@@ -1,4 +1,6 @@
 // The public header block of a LAS file, versions 1.0 to 1.4. From src/raw/header.rs and src/version.rs of las 0.11.2.
+#![tactic(auto)]
+
 ghost use Rattle.std.specs.Prelude.{◌≡◌, ◌≤◌, length};
 ghost use Rattle.header.specs.Layout.{FileSignature, LegacyNumberOfPointsByReturn, NumberOfPointsByReturn};
 ghost use Rattle.header.specs.Header.{part, value, start_of, evlr_of, nans_of, header_of, lasf, default_header, points_of, end_of, end_of_points};
@@ -9,45 +11,45 @@ use refusal::Refusal;
 // What every header begins with.
 pub const LASF: [u8; 4] = *b"LASF";
 
-#[derive(Drop)]
+#[derive(Clone, Copy)]
 pub struct Version {
     pub major: u8,
     pub minor: u8,
 }
 
 // A version's header size, or refusal 3 where it is not 1.0 to 1.4.
-#[derive(Drop)]
+#[derive(Clone, Copy)]
 pub enum StandardSize {
     Is(u16),
     Refused(Refusal),
 }
 
-#[derive(Drop)]
+#[derive(Clone, Copy)]
 pub enum OptionU64 {
     Some(u64),
     None,
 }
 
-#[derive(Drop)]
+#[derive(Clone, Copy)]
 pub struct Evlr {
     pub start_of_first_evlr: u64,
     pub number_of_evlrs: u32,
 }
 
-#[derive(Drop)]
+#[derive(Clone, Copy)]
 pub enum OptionEvlr {
     Some(Evlr),
     None,
 }
 
-#[derive(Drop)]
+#[derive(Clone, Copy)]
 pub struct LargeFile {
     pub number_of_point_records: u64,
     pub number_of_points_by_return: [u64; 15],
 }
 
 // The pattern of each of the header's floats that is a NaN, and 0 for the others: a float alone keeps no NaN's pattern.
-#[derive(Drop)]
+#[derive(Clone, Copy)]
 pub struct Nans {
     pub x_scale_factor: u64,
     pub y_scale_factor: u64,
@@ -64,7 +66,7 @@ pub struct Nans {
 }
 
 // A header without its signature, which can only be `LASF`, and its padding, which is a part of the caller's bytes.
-#[derive(Drop)]
+#[derive(Clone, Copy)]
 pub struct Header {
     pub file_source_id: u16,
     pub global_encoding: u16,
@@ -101,21 +103,21 @@ pub struct Header {
 }
 
 // Where the standard block ends and where its padding does, or why there is no header.
-#[derive(Drop)]
+#[derive(Clone, Copy)]
 pub enum HeaderAnswer {
     Whole { block: usize, end: usize },
     Refused(Refusal),
 }
 
 // The header that was read; the default one where the answer is a refusal.
-#[derive(Drop)]
+#[derive(Clone, Copy)]
 pub struct HeaderRead {
     pub answer: HeaderAnswer,
     pub header: Header,
 }
 
 // The first byte after the points, or refusal 12 with the count where it is 2^64 or more.
-#[derive(Drop)]
+#[derive(Clone, Copy)]
 pub enum EndOfPoints {
     Is(u64),
     Refused(Refusal),

@@ -1,5 +1,7 @@
 // The header of a file that goes to the other version: 1.2 with format 1 or 3 becomes 1.4 with format 6 or 7, and such a 1.4 header becomes
 // 1.2. From document 02, No. 3: "Whole files, old to new and back". The points are not looked at here.
+#![tactic(auto)]
+
 ghost use Rattle.std.specs.Prelude.{◌≡◌, true, ◌++◌, drop, replicate};
 ghost use Rattle.header_convert.specs.Turned.{is_of, beside, new_code, old_code, large_of, old_by_return, every, fits32, is_zero, counts_fit, changed_of, new_header, old_header, new_goes, old_goes, new_turned, old_turned};
 ghost use Rattle.header_convert.specs.Steps.{NewFits, OldFits};
@@ -8,14 +10,14 @@ use header::{Header, LargeFile, OptionEvlr, OptionU64, Version};
 use refusal::Refusal;
 
 // Whether a header goes to the other version, or why not.
-#[derive(Drop)]
+#[derive(Clone, Copy)]
 pub enum Goes {
     Yes,
     Refused(Refusal),
 }
 
 // What a header says of its version and of where its points lie, and as what.
-#[derive(Drop)]
+#[derive(Clone, Copy)]
 pub struct Places {
     pub minor: u8,
     pub header_size: u16,

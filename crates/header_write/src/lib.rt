@@ -1,5 +1,7 @@
 // The header written: `Header::write_to` of src/raw/header.rs of las 0.11.2. It stands apart from crate `header` so that
 // each is checked within half a minute.
+#![tactic(auto)]
+
 ghost use Rattle.std.specs.Prelude.{◌≡◌, ◌+◌, length, cond, ◌++◌};
 ghost use Rattle.std.proofs.lemmas.List.Edits.{sets};
 ghost use Rattle.le.specs.Le.{bytes};

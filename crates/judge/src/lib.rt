@@ -1,6 +1,8 @@
 // Whether a whole run of point records goes to the other format of its pair, and how many bytes it needs there: document 02's question
 // before converting, which has no destination. By the pair of formats, by the length of the source, and on the way down by each record, in
 // document 01's order.
+#![tactic(auto)]
+
 ghost use Rattle.std.specs.Prelude.{◌≡◌, ◌*◌, ◌≤◌, length};
 ghost use Rattle.format.specs.declared.FormatLen.TheVariants as len;
 ghost use Rattle.format.specs.Fields.{len_of};
@@ -15,14 +17,14 @@ use refusal::Refusal;
 use strict::Fit;
 
 // Whether a whole run goes, or why not, with the record's number.
-#[derive(Drop)]
+#[derive(Clone, Copy)]
 pub enum Judged {
     Fits,
     Refused { refusal: Refusal, record: u64 },
 }
 
 // The plan that a run goes by and the bytes that it needs, or why it does not go, with the record's number.
-#[derive(Drop)]
+#[derive(Clone, Copy)]
 pub enum Verdict {
     Goes { plan: Plan, bytes: usize },
     Refused { refusal: Refusal, record: u64 },

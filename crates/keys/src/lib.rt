@@ -1,5 +1,7 @@
 // The coordinate keys of a file, which say the grid that its points are in: the directory in the first VLR of LASF_Projection with record
 // id 34735, and the doubles and the text that it points into, 34736 and 34737. Added by document 02, No. 14.
+#![tactic(auto)]
+
 ghost use Rattle.std.specs.Prelude.{◌≡◌, take, drop};
 ghost use Rattle.keys.specs.Keys.{projection_of, target_of, start_of, opened_in, opened_of, base_of, part_of, told_of, key_at_of, found_of, got_of};
 
@@ -10,7 +12,7 @@ use refusal::Refusal;
 
 // Where the keys of a file stand: how many there are, the first byte and the bytes of their directory, and the first byte of the
 // doubles and of the text, 0 where there are none.
-#[derive(Drop)]
+#[derive(Clone, Copy)]
 pub struct Keys {
     pub count: u16,
     pub start: usize,
@@ -20,21 +22,21 @@ pub struct Keys {
 }
 
 // The keys of a file, or why it has none, with the record number of the file check's refusal.
-#[derive(Drop)]
+#[derive(Clone, Copy)]
 pub enum Opened {
     Keys(Keys),
     Refused { refusal: Refusal, record: u64 },
 }
 
 // A part of the file: its first byte and its bytes.
-#[derive(Drop)]
+#[derive(Clone, Copy)]
 pub enum Part {
     At { start: usize, length: usize },
     Nothing,
 }
 
 // The value of a key: a number, or doubles of eight bytes each or text, as a part of the file.
-#[derive(Drop)]
+#[derive(Clone, Copy)]
 pub enum Value {
     Number(u16),
     Doubles { start: usize, length: usize },
@@ -42,14 +44,14 @@ pub enum Value {
 }
 
 // A key and its value.
-#[derive(Drop)]
+#[derive(Clone, Copy)]
 pub enum KeyAt {
     Is { key: u16, value: Value },
     Nothing,
 }
 
 // A key's value, or why there is none, with the record number of the file check's refusal.
-#[derive(Drop)]
+#[derive(Clone, Copy)]
 pub enum Got {
     Value(Value),
     Refused { refusal: Refusal, record: u64 },

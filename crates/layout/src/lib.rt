@@ -1,26 +1,28 @@
 // Where each field of a point record stands. `fields` and `Layout` are from src/raw/point.rs of las 0.11.2; the field table
 // that they follow is a definition of the crate format.
+#![tactic(auto)]
+
 ghost use Rattle.std.specs.Prelude.{◌≡◌, cond, ◌≤◌};
 ghost use Rattle.layout.specs.Layout.{slot_of, slots_of, places_of, placed_of, layout_of};
 
 use format::{Field, Format};
 
 // A field that the format has, or nothing in its place.
-#[derive(Drop)]
+#[derive(Clone, Copy)]
 pub enum Slot {
     Some(Field),
     None,
 }
 
 // Where a field that may be missing stands.
-#[derive(Drop)]
+#[derive(Clone, Copy)]
 pub enum Place {
     At(usize),
     Missing,
 }
 
 // The places of the source id and of the fields after it, whether or not the format has them.
-#[derive(Drop)]
+#[derive(Clone, Copy)]
 pub struct Places {
     pub point_source_id: usize,
     pub gps_time: usize,
@@ -31,7 +33,7 @@ pub struct Places {
 }
 
 // The places that depend on the format, and the record's true length.
-#[derive(Drop)]
+#[derive(Clone, Copy)]
 pub struct Layout {
     pub user_data: usize,
     pub scan_angle: usize,

@@ -2,13 +2,13 @@
 ghost use Rattle.std.specs.Prelude.{◌≡◌};
 ghost use Rattle.le.specs.Real.{f32_of, f32_bits_of, f64_of, f64_bits_of};
 
-#[derive(Drop)]
+#[derive(Clone, Copy)]
 pub struct F32 {
     pub value: f32,
     pub nan: u32,
 }
 
-#[derive(Drop)]
+#[derive(Clone, Copy)]
 pub struct F64 {
     pub value: f64,
     pub nan: u64,

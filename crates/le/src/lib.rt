@@ -1,4 +1,6 @@
 // Little-endian numbers in a slice of bytes. Every reader is total: a byte past the end counts as 0.
+#![tactic(auto)]
+
 pub mod float;
 pub mod signed;
 

@@ -1,11 +1,13 @@
 // Bytes written to the front of a lent slice: all of them, or none and refusal 22.
+#![tactic(auto)]
+
 ghost use Rattle.std.specs.Prelude.{◌≡◌, ◌++◌};
 ghost use Rattle.lent.specs.Front.{front_of};
 
 use refusal::Refusal;
 
 // How many bytes were written, or why none were.
-#[derive(Drop)]
+#[derive(Clone, Copy)]
 pub enum Wrote {
     Bytes(usize),
     Refused(Refusal),

@@ -1,10 +1,15 @@
 // The parts program's work: document 01, "The parts program reads standard input". What is printed is outside the logic, so
 // these functions promise only that they are safe and end; the numbers printed are those that the part table and the file
 // check promise.
+#![tactic(auto)]
+
 use cursor::{Kind, Part};
-use libc::{STDIN_FILENO, STDOUT_FILENO};
 use parts::Tabled;
 use refusal::Row;
+use std::io;
+
+// As many bytes as are judged.
+const BYTES: usize = 65536;
 
 // More records than 65,536 bytes hold, so that no file is refused for it.
 const ALLOWANCE: u64 = 1300;
@@ -13,18 +18,18 @@ const ALLOWANCE: u64 = 1300;
 const ENTRIES: usize = 1310;
 
 // Lists the first 65,536 bytes of standard input.
-pub fn run() {
-    let mut file = io::large_buffer();
-    let n = io::read_full(STDIN_FILENO, &mut file);
-    list(&file[..n]);
+pub fn run(rt: &HostRuntime) -> io::Result<()> {
+    let mut file = [0u8; BYTES];
+    let n = input::read_full(rt, &mut file)?;
+    list(rt, &file[..n])
 }
 
 // Prints the parts of a file under their heading, or its refusal: the table is made here, and lent to be filled.
-pub fn list(file: &[u8]) {
+pub fn list(rt: &HostRuntime, file: &[u8]) -> io::Result<()> {
     let unfilled = unfilled();
     let mut table = [unfilled; ENTRIES];
     let tabled = parts::parts(file, ALLOWANCE, &mut table);
-    print_table(tabled, table);
+    print_table(rt, tabled, &table)
 }
 
 // What an entry of the table holds before it is filled.
@@ -37,57 +42,49 @@ fn unfilled() -> Part {
 }
 
 // Prints as many entries as were filled, or the refusal.
-fn print_table(tabled: Tabled, table: [Part; ENTRIES]) {
+fn print_table(rt: &HostRuntime, tabled: Tabled, table: &[Part; ENTRIES]) -> io::Result<()> {
     match tabled {
-        Tabled::Entries(n) => print_entries(table, n),
-        Tabled::Refused { refusal, record } => print_refused(refusal.row(record)),
+        Tabled::Entries(n) => print_entries(rt, table, n),
+        Tabled::Refused { refusal, record } => print_refused(rt, refusal.row(record)),
     }
 }
 
 // A line for each of the first n entries; ends early where nothing more can be written.
-fn print_entries(table: [Part; ENTRIES], n: usize) {
-    io::write_all(STDOUT_FILENO, b"kind start length\n");
+fn print_entries(rt: &HostRuntime, table: &[Part; ENTRIES], n: usize) -> io::Result<()> {
+    println!(rt; "kind start length")?;
     for i in 0..ENTRIES {
         if i == n {
-            return;
+            return Ok(());
         }
-        if !print_part(table[i]) {
-            return;
-        }
+        print_part(rt, table[i])?;
     }
+    Ok(())
 }
 
-// Prints a part's line, and says whether it could be written.
-fn print_part(part: Part) -> bool {
-    let kind = part.kind;
-    print_kind(kind);
-    print_number(part.start);
-    print_number(part.length);
-    io::write_all(STDOUT_FILENO, b"\n")
+// Prints a part's line.
+fn print_part(rt: &HostRuntime, part: Part) -> io::Result<()> {
+    let kind = name(part.kind);
+    let start = part.start;
+    let length = part.length;
+    println!(rt; "{kind} {start} {length}")
 }
 
-fn print_kind(kind: Kind) -> bool {
+// The word for a kind of part.
+fn name(kind: Kind) -> &'static str {
     match kind {
-        Kind::Header => io::write_all(STDOUT_FILENO, b"header"),
-        Kind::Vlr => io::write_all(STDOUT_FILENO, b"vlr"),
-        Kind::Gap => io::write_all(STDOUT_FILENO, b"gap"),
-        Kind::Points => io::write_all(STDOUT_FILENO, b"points"),
-        Kind::Evlr => io::write_all(STDOUT_FILENO, b"evlr"),
-        Kind::Waveform => io::write_all(STDOUT_FILENO, b"waveform"),
+        Kind::Header => "header",
+        Kind::Vlr => "vlr",
+        Kind::Gap => "gap",
+        Kind::Points => "points",
+        Kind::Evlr => "evlr",
+        Kind::Waveform => "waveform",
     }
 }
 
 // The line of a refusal: number, value and record number.
-fn print_refused(row: Row) {
-    io::write_all(STDOUT_FILENO, b"refused");
-    print_number(row.number as u64);
-    print_number(row.value);
-    print_number(row.record);
-    io::write_all(STDOUT_FILENO, b"\n");
-}
-
-// A number after a space.
-fn print_number(n: u64) {
-    io::write_all(STDOUT_FILENO, b" ");
-    io::print_decimal(STDOUT_FILENO, n);
+fn print_refused(rt: &HostRuntime, row: Row) -> io::Result<()> {
+    let number = row.number;
+    let value = row.value;
+    let record = row.record;
+    println!(rt; "refused {number} {value} {record}")
 }

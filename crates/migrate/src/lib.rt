@@ -1,5 +1,7 @@
 // Whole files, old to new and back: a file of version 1.2 with format 1 or 3 becomes one of 1.4 with format 6 or 7, and such a file becomes
 // 1.2 again. Document 02, No. 3: a question, which has no destination, and a writing call, each way.
+#![tactic(auto)]
+
 ghost use Rattle.std.specs.Prelude.{◌≡◌, true, false, ◌++◌, ◌+◌, ◌-◌, ◌^◌, ◌≤◌, ◌<◌, length, drop};
 ghost use Rattle.extents.specs.Extents.{points_end};
 ghost use Rattle.convert.specs.Demand.{convert_of};

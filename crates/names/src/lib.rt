@@ -1,4 +1,6 @@
 // Names in text fields of a fixed length: what is left of the field is zeros. Document 02, No. 8: "by its name, zeros filling it".
+#![tactic(auto)]
+
 ghost use Rattle.std.specs.Prelude.{◌≡◌};
 ghost use Rattle.names.specs.Names.{is_named};
 

@@ -2,144 +2,156 @@
 // `Flags::to_two_bytes`, `to_three_bytes`, `ScanAngle::to_rank` and `to_scaled`, strictly by `convert::to_old` and `convert::to_new`
 // over a whole record of format 6 or 1; what was upgraded goes down again. `stdout` has the lines that the documents say, written from
 // them and never from this program. What is printed is outside the logic, so these functions promise only that they are safe and end.
+#![tactic(auto)]
+
 use angle::ScanAngle;
 use convert::Converted;
 use flags::{Flags, TwoBytes};
 use le::signed;
-use libc::STDOUT_FILENO;
 use refusal::Refusal;
+use std::io;
 
 // The bytes of records of format 6 and of format 1, without extra bytes.
 const NEW: usize = 30;
 
 const OLD: usize = 28;
 
-fn main() {
-    flags_down(0x11, 0, 2);
-    flags_down(0x21, 0x48, 2);
-    flags_down(0x11, 0x08, 12);
-    flags_down(0x11, 0, 28);
-    flags_down(0x88, 0x10, 40);
-    flags_down(0x81, 0, 2);
-    flags_down(0x11, 0, 32);
-    flags_down(0x11, 0x10, 2);
-    flags_up(0x51, 0x22);
-    flags_up(0x09, 0x1c);
-    angle_down(249);
-    angle_down(250);
-    angle_down(-250);
-    angle_down(15083);
-    angle_down(15084);
-    angle_down(-15083);
-    angle_down(-15084);
-    angle_down(21249);
-    angle_down(21250);
-    angle_down(-21416);
-    angle_down(-21417);
-    angle_up(1);
-    angle_up(3);
-    angle_up(-128);
-    angle_up(90);
-    angle_up(91);
-    angle_up(104);
-    angle_up(-90);
-    angle_up(-91);
+fn main(rt: HostRuntime) -> io::Result<()> {
+    flags(&rt)?;
+    angles(&rt)
+}
+
+// The numbers of flags.
+fn flags(rt: &HostRuntime) -> io::Result<()> {
+    flags_down(rt, 0x11, 0, 2)?;
+    flags_down(rt, 0x21, 0x48, 2)?;
+    flags_down(rt, 0x11, 0x08, 12)?;
+    flags_down(rt, 0x11, 0, 28)?;
+    flags_down(rt, 0x88, 0x10, 40)?;
+    flags_down(rt, 0x81, 0, 2)?;
+    flags_down(rt, 0x11, 0, 32)?;
+    flags_down(rt, 0x11, 0x10, 2)?;
+    flags_up(rt, 0x51, 0x22)?;
+    flags_up(rt, 0x09, 0x1c)
+}
+
+// Those of angles and ranks.
+fn angles(rt: &HostRuntime) -> io::Result<()> {
+    angle_down(rt, 249)?;
+    angle_down(rt, 250)?;
+    angle_down(rt, -250)?;
+    angle_down(rt, 15083)?;
+    angle_down(rt, 15084)?;
+    angle_down(rt, -15083)?;
+    angle_down(rt, -15084)?;
+    angle_down(rt, 21249)?;
+    angle_down(rt, 21250)?;
+    angle_down(rt, -21416)?;
+    angle_down(rt, -21417)?;
+    angle_up(rt, 1)?;
+    angle_up(rt, 3)?;
+    angle_up(rt, -128)?;
+    angle_up(rt, 90)?;
+    angle_up(rt, 91)?;
+    angle_up(rt, 104)?;
+    angle_up(rt, -90)?;
+    angle_up(rt, -91)
 }
 
 // Extended flags made old, plainly and strictly.
-fn flags_down(a: u8, b: u8, c: u8) {
-    print_three(a, b, c);
-    print(b" plainly ");
-    plain_two(Flags::ThreeByte(a, b, c));
-    print(b", strictly ");
-    strict_two(a, b, c);
-    print(b"\n");
+fn flags_down(rt: &HostRuntime, a: u8, b: u8, c: u8) -> io::Result<()> {
+    print_three(rt, a, b, c)?;
+    print!(rt; " plainly ")?;
+    plain_two(rt, Flags::ThreeByte(a, b, c))?;
+    print!(rt; ", strictly ")?;
+    strict_two(rt, a, b, c)?;
+    println!(rt; "")
 }
 
-fn plain_two(flags: Flags) {
+fn plain_two(rt: &HostRuntime, flags: Flags) -> io::Result<()> {
     match flags.to_two_bytes() {
-        TwoBytes::Bytes(x, y) => print_two(x, y),
-        TwoBytes::Refused(refusal) => print_refused(refusal, 0),
+        TwoBytes::Bytes(x, y) => print_two(rt, x, y),
+        TwoBytes::Refused(refusal) => print_refused(rt, refusal, 0),
     }
 }
 
-fn strict_two(a: u8, b: u8, c: u8) {
+fn strict_two(rt: &HostRuntime, a: u8, b: u8, c: u8) -> io::Result<()> {
     let new = new_record(a, b, c, 0);
     let mut old = [0u8; OLD];
     match convert::to_old(&new, 6, 0, 1, &mut old) {
-        Converted::Bytes(_) => print_two(old[14], old[15]),
-        Converted::Refused { refusal, record } => print_refused(refusal, record),
+        Converted::Bytes(_) => print_two(rt, old[14], old[15]),
+        Converted::Refused { refusal, record } => print_refused(rt, refusal, record),
     }
 }
 
 // Old flags made extended, as the Rust does and by the upgrade, and what was upgraded made old again.
-fn flags_up(a: u8, b: u8) {
-    print_two(a, b);
-    print(b" plainly ");
+fn flags_up(rt: &HostRuntime, a: u8, b: u8) -> io::Result<()> {
+    print_two(rt, a, b)?;
+    print!(rt; " plainly ")?;
     let three = Flags::TwoByte(a, b).to_three_bytes();
-    print_three(three.a, three.b, three.c);
-    print(b", upgraded ");
-    upgraded_three(a, b);
-    print(b"\n");
+    print_three(rt, three.a, three.b, three.c)?;
+    print!(rt; ", upgraded ")?;
+    upgraded_three(rt, a, b)?;
+    println!(rt; "")
 }
 
-fn upgraded_three(a: u8, b: u8) {
+fn upgraded_three(rt: &HostRuntime, a: u8, b: u8) -> io::Result<()> {
     let old = old_record(a, b, 0);
     let mut new = [0u8; NEW];
     match convert::to_new(&old, 1, 0, 1, &mut new) {
         Converted::Bytes(_) => {
-            print_three(new[14], new[15], new[16]);
-            print(b", down again ");
-            strict_two(new[14], new[15], new[16]);
+            print_three(rt, new[14], new[15], new[16])?;
+            print!(rt; ", down again ")?;
+            strict_two(rt, new[14], new[15], new[16])
         }
-        Converted::Refused { refusal, record } => print_refused(refusal, record),
+        Converted::Refused { refusal, record } => print_refused(rt, refusal, record),
     }
 }
 
 // A scaled angle made a rank, plainly and strictly.
-fn angle_down(n: i16) {
+fn angle_down(rt: &HostRuntime, n: i16) -> io::Result<()> {
     let bits = signed::bits16(n);
-    print(b"scaled ");
-    print_signed16(bits);
-    print(b" plainly ");
-    print_signed8(signed::bits8(ScanAngle::Scaled(n).to_rank()));
-    print(b", strictly ");
-    strict_rank(bits);
-    print(b"\n");
+    print!(rt; "scaled ")?;
+    print_signed16(rt, bits)?;
+    print!(rt; " plainly ")?;
+    print_signed8(rt, signed::bits8(ScanAngle::Scaled(n).to_rank()))?;
+    print!(rt; ", strictly ")?;
+    strict_rank(rt, bits)?;
+    println!(rt; "")
 }
 
-fn strict_rank(bits: u16) {
+fn strict_rank(rt: &HostRuntime, bits: u16) -> io::Result<()> {
     let new = new_record(0, 0, 0, bits);
     let mut old = [0u8; OLD];
     match convert::to_old(&new, 6, 0, 1, &mut old) {
-        Converted::Bytes(_) => print_signed8(old[16]),
-        Converted::Refused { refusal, record } => print_refused(refusal, record),
+        Converted::Bytes(_) => print_signed8(rt, old[16]),
+        Converted::Refused { refusal, record } => print_refused(rt, refusal, record),
     }
 }
 
 // A rank made scaled, plainly and by the upgrade, and what was upgraded made a rank again.
-fn angle_up(r: i8) {
+fn angle_up(rt: &HostRuntime, r: i8) -> io::Result<()> {
     let bits = signed::bits8(r);
-    print(b"rank ");
-    print_signed8(bits);
-    print(b" plainly ");
-    print_signed16(signed::bits16(ScanAngle::Rank(r).to_scaled()));
-    print(b", upgraded ");
-    upgraded_angle(bits);
-    print(b"\n");
+    print!(rt; "rank ")?;
+    print_signed8(rt, bits)?;
+    print!(rt; " plainly ")?;
+    print_signed16(rt, signed::bits16(ScanAngle::Rank(r).to_scaled()))?;
+    print!(rt; ", upgraded ")?;
+    upgraded_angle(rt, bits)?;
+    println!(rt; "")
 }
 
-fn upgraded_angle(rank: u8) {
+fn upgraded_angle(rt: &HostRuntime, rank: u8) -> io::Result<()> {
     let old = old_record(0, 0, rank);
     let mut new = [0u8; NEW];
     match convert::to_new(&old, 1, 0, 1, &mut new) {
         Converted::Bytes(_) => {
             let bits = le::u16_at(&new, 18);
-            print_signed16(bits);
-            print(b", down again ");
-            strict_rank(bits);
+            print_signed16(rt, bits)?;
+            print!(rt; ", down again ")?;
+            strict_rank(rt, bits)
         }
-        Converted::Refused { refusal, record } => print_refused(refusal, record),
+        Converted::Refused { refusal, record } => print_refused(rt, refusal, record),
     }
 }
 
@@ -164,53 +176,31 @@ fn old_record(a: u8, b: u8, rank: u8) -> [u8; OLD] {
 }
 
 // A refusal's number and value, and its record where it has one.
-fn print_refused(refusal: Refusal, record: u64) {
-    io::print_decimal(STDOUT_FILENO, refusal.number() as u64);
-    print(b" with ");
-    io::print_decimal(STDOUT_FILENO, refusal.value());
+fn print_refused(rt: &HostRuntime, refusal: Refusal, record: u64) -> io::Result<()> {
+    let number = refusal.number();
+    let value = refusal.value();
+    print!(rt; "{number} with {value}")?;
     if record > 0 {
-        print(b" in record ");
-        io::print_decimal(STDOUT_FILENO, record);
+        print!(rt; " in record {record}")?;
     }
+    Ok(())
 }
 
-fn print_two(a: u8, b: u8) {
-    print(b"(0x");
-    io::print_hex(STDOUT_FILENO, a as u64, 2);
-    print(b",0x");
-    io::print_hex(STDOUT_FILENO, b as u64, 2);
-    print(b")");
+fn print_two(rt: &HostRuntime, a: u8, b: u8) -> io::Result<()> {
+    print!(rt; "(0x{a:02x},0x{b:02x})")
 }
 
-fn print_three(a: u8, b: u8, c: u8) {
-    print(b"(0x");
-    io::print_hex(STDOUT_FILENO, a as u64, 2);
-    print(b",0x");
-    io::print_hex(STDOUT_FILENO, b as u64, 2);
-    print(b",");
-    io::print_decimal(STDOUT_FILENO, c as u64);
-    print(b")");
+fn print_three(rt: &HostRuntime, a: u8, b: u8, c: u8) -> io::Result<()> {
+    print!(rt; "(0x{a:02x},0x{b:02x},{c})")
 }
 
 // The signed numbers of 8 and of 16 bits.
-fn print_signed8(bits: u8) {
-    if bits > 127 {
-        print(b"-");
-        io::print_decimal(STDOUT_FILENO, 256 - bits as u64);
-    } else {
-        io::print_decimal(STDOUT_FILENO, bits as u64);
-    }
+fn print_signed8(rt: &HostRuntime, bits: u8) -> io::Result<()> {
+    let n = signed::signed8(bits);
+    print!(rt; "{n}")
 }
 
-fn print_signed16(bits: u16) {
-    if bits > 32767 {
-        print(b"-");
-        io::print_decimal(STDOUT_FILENO, 65536 - bits as u64);
-    } else {
-        io::print_decimal(STDOUT_FILENO, bits as u64);
-    }
-}
-
-fn print(s: &[u8]) {
-    io::write_all(STDOUT_FILENO, s);
+fn print_signed16(rt: &HostRuntime, bits: u16) -> io::Result<()> {
+    let n = signed::signed16(bits);
+    print!(rt; "{n}")
 }

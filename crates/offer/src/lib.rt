@@ -1,5 +1,7 @@
 // Whether records offered to a file of version 1.2 are added, are in it already, or are refused. From document 02, No. 1: "An append I
 // can repeat". Nothing is written here.
+#![tactic(auto)]
+
 ghost use Rattle.std.specs.Prelude.{◌≡◌, ◌+◌, ◌*◌, ◌^◌, ◌≤◌, ◌<◌};
 ghost use Rattle.offer.specs.Offer.{counts_fit, no, growing, counted, offered, offer_of};
 ghost use Rattle.offer.specs.Laws.{CountsFit};
@@ -12,7 +14,7 @@ use rules::Checked;
 use tally::{ByReturn, Tally};
 
 // Records that go into a file: where, how many bytes, and the header's counts with them.
-#[derive(Drop)]
+#[derive(Clone, Copy)]
 pub struct Sweep {
     // The end of the file's points.
     pub at: u64,
@@ -27,7 +29,7 @@ pub struct Sweep {
 }
 
 // What is to be done with the records, or why nothing is, with the record number of the file check's refusal.
-#[derive(Drop)]
+#[derive(Clone, Copy)]
 pub enum Offer {
     Add(Sweep),
     AlreadyIn,

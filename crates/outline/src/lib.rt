@@ -1,5 +1,7 @@
 // What a header says of the parts of its file: where they begin and how many there are. The file check, the part cursor and
 // the walker go by these few numbers in place of the whole header.
+#![tactic(auto)]
+
 ghost use Rattle.std.specs.Prelude.{◌≡◌, cond};
 ghost use Rattle.outline.specs.Outline.{evlr_start, evlr_count, packets_start, is_waveform, outline_of};
 
@@ -7,7 +9,7 @@ use header::{Header, OptionEvlr, OptionU64, Version};
 
 // The header's fields of these names; the count is the effective one. The later records, those after the points, are the EVLRs, or the
 // waveform packets, which are one record; without any both numbers are 0.
-#[derive(Drop)]
+#[derive(Clone, Copy)]
 pub struct Outline {
     pub header_size: u16,
     pub offset_to_point_data: u32,

@@ -1,4 +1,6 @@
 // Document 01's pairs of formats, and the plan of a run: both formats with the lengths of their records.
+#![tactic(auto)]
+
 ghost use Rattle.std.specs.Prelude.{◌≡◌, ◌<◌};
 ghost use Rattle.format.specs.Fields.{len_of};
 ghost use Rattle.pairs.specs.Pairs.{format_with, pair_of, old_pair, new_pair, planned_by, lengths_of};
@@ -7,14 +9,14 @@ use format::{Format, FormatLen, NewFormat};
 use refusal::Refusal;
 
 // The formats that a run is read and written in, where there is a pair.
-#[derive(Drop)]
+#[derive(Clone, Copy)]
 pub enum Pair {
     Formats(Format, Format),
     None,
 }
 
 // The two formats of a run, with the lengths of their records.
-#[derive(Drop)]
+#[derive(Clone, Copy)]
 pub struct Plan {
     pub source: Format,
     pub target: Format,
@@ -22,7 +24,7 @@ pub struct Plan {
     pub target_length: usize,
 }
 
-#[derive(Drop)]
+#[derive(Clone, Copy)]
 pub enum Planned {
     Is(Plan),
     Refused(Refusal),

@@ -1,4 +1,6 @@
 // The part table: document 01, "a lent table of part entries (kind, start, length)".
+#![tactic(auto)]
+
 ghost use Rattle.std.specs.Prelude.{◌≡◌, length};
 ghost use Rattle.cursor.specs.Cursor.{left_of};
 ghost use Rattle.parts.specs.Table.{nothing, nowhere, filling_of, tabled_of};
@@ -7,14 +9,14 @@ use cursor::{Cursor, Part, Plan, Stage, Started};
 use refusal::Refusal;
 
 // How many entries were filled, or a refusal with its record number.
-#[derive(Drop)]
+#[derive(Clone, Copy)]
 pub enum Tabled {
     Entries(usize),
     Refused { refusal: Refusal, record: u64 },
 }
 
 // What to answer, how many entries to fill, none where the answer is a refusal, and the cursor at the first part.
-#[derive(Drop)]
+#[derive(Clone, Copy)]
 struct Filling {
     answer: Tabled,
     entries: usize,

@@ -1,4 +1,8 @@
 // The parts program on empty input, which it refuses: "as `refused 1 4 0` for empty input".
-fn main() {
-    listing::run();
+#![tactic(auto)]
+
+use std::io;
+
+fn main(rt: HostRuntime) -> io::Result<()> {
+    listing::run(&rt)
 }

@@ -1,4 +1,6 @@
 // A point record, read. From src/raw/point.rs of las 0.11.2: `Waveform`, `Point`, `read_from`, and `Color` from its color.rs.
+#![tactic(auto)]
+
 pub mod marks;
 
 ghost use Rattle.std.specs.Prelude.{◌≡◌, cond, [], ◌+◌, ◌≤◌, ltb, length, take, drop};
@@ -11,7 +13,7 @@ use format::{Field, Format, FormatLen};
 use le::float::F64;
 use refusal::Refusal;
 
-#[derive(Drop)]
+#[derive(Clone, Copy)]
 pub struct Color {
     pub red: u16,
     pub green: u16,
@@ -19,7 +21,7 @@ pub struct Color {
 }
 
 // The patterns of a waveform's floats where they are NaNs, and 0 elsewhere.
-#[derive(Drop)]
+#[derive(Clone, Copy)]
 pub struct WaveformNans {
     pub return_point_waveform_location: u32,
     pub x_t: u32,
@@ -27,7 +29,7 @@ pub struct WaveformNans {
     pub z_t: u32,
 }
 
-#[derive(Drop)]
+#[derive(Clone, Copy)]
 pub struct Waveform {
     pub wave_packet_descriptor_index: u8,
     pub byte_offset_to_waveform_data: u64,
@@ -41,25 +43,25 @@ pub struct Waveform {
 
 // What a point may lack.
 
-#[derive(Drop)]
+#[derive(Clone, Copy)]
 pub enum MaybeTime {
     Some(F64),
     None,
 }
 
-#[derive(Drop)]
+#[derive(Clone, Copy)]
 pub enum MaybeColor {
     Some(Color),
     None,
 }
 
-#[derive(Drop)]
+#[derive(Clone, Copy)]
 pub enum MaybeWaveform {
     Some(Waveform),
     None,
 }
 
-#[derive(Drop)]
+#[derive(Clone, Copy)]
 pub enum MaybeNir {
     Some(u16),
     None,
@@ -67,7 +69,7 @@ pub enum MaybeNir {
 
 // A point without its extra bytes, which stay in the caller's slice. The source id stands before the flags, unlike in the Rust: so
 // flags and angle are eight bytes that overlap with nothing of a refusal, and stay in a register where a point is read and written.
-#[derive(Drop)]
+#[derive(Clone, Copy)]
 pub struct Point {
     pub x: i32,
     pub y: i32,
@@ -83,7 +85,7 @@ pub struct Point {
     pub nir: MaybeNir,
 }
 
-#[derive(Drop)]
+#[derive(Clone, Copy)]
 pub enum PointRead {
     Is(Point),
     Refused(Refusal),

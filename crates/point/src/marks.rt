@@ -9,14 +9,14 @@ use flags::Flags;
 use format::{Format, FormatLen};
 use refusal::Refusal;
 
-#[derive(Drop)]
+#[derive(Clone, Copy)]
 pub struct Marks {
     pub flags: Flags,
     pub scan_angle: ScanAngle,
     pub nir: MaybeNir,
 }
 
-#[derive(Drop)]
+#[derive(Clone, Copy)]
 pub enum MarksRead {
     Is(Marks),
     Refused(Refusal),

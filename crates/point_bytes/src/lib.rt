@@ -1,4 +1,6 @@
 // The bytes of a point record's parts: those before the time, the time, the colour, the near infrared and the waveform.
+#![tactic(auto)]
+
 ghost use Rattle.std.specs.Prelude.{◌≡◌};
 ghost use Rattle.std.specs.Float.{binary32};
 ghost use Rattle.std.specs.Int.{w32};
@@ -176,13 +178,13 @@ fn some_waveform_bytes(w: Waveform) -> [u8; 29]
 }
 
 // The bytes of a number, the lowest first: a struct and no array, since its fields are read without a place in memory.
-#[derive(Drop)]
+#[derive(Clone, Copy)]
 struct Two {
     a: u8,
     b: u8,
 }
 
-#[derive(Drop)]
+#[derive(Clone, Copy)]
 struct Four {
     a: u8,
     b: u8,
@@ -190,7 +192,7 @@ struct Four {
     d: u8,
 }
 
-#[derive(Drop)]
+#[derive(Clone, Copy)]
 struct Eight {
     a: u8,
     b: u8,

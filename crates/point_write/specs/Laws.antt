@@ -13,11 +13,11 @@ use Rattle.point_write.specs.Write.{field_bytes, record_of}
 module _ (f : Format) (p : Point) (e : List ℕ) where
   pub extended_is : f.is_extended ≡ true → record_of f p e ≡ core_of p ++ joined (field_bytes f p e) (rest_of f)
   unfolding record_of fields_of core_of
-  extended_is h = rw h
+  extended_is h = simp h
 
   pub legacy_is : (a b : ℕ) → f.is_extended ≡ false → two_bytes_of p.flags ≡ Bytes a b → record_of f p e ≡ legacy_core_of p a b ++ joined (field_bytes f p e) (rest_of f)
   unfolding record_of fields_of legacy_core_of
-  legacy_is a b h t = rw (h, t)
+  legacy_is a b h t = simp (h, t)
 
   -- the first has 22 bytes in extended formats, and 20 in legacy ones
   pub core-length : length (core_of p) ≡ 22

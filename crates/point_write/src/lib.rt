@@ -1,4 +1,6 @@
 // A point record, written. `write_to` of src/raw/point.rs of las 0.11.2; a crate of its own, to keep checks short.
+#![tactic(auto)]
+
 ghost use Rattle.std.specs.Prelude.{◌≡◌, ◌+◌, ◌≤◌, length};
 ghost use Rattle.std.proofs.lemmas.List.Edits.{sets};
 ghost use Rattle.fields.specs.Table.{Stored};

@@ -1,4 +1,6 @@
 // The class of one point set in a lent file, in place: one byte of the file changes. From document 02, No. 13: "Reclassify one point".
+#![tactic(auto)]
+
 ghost use Rattle.std.specs.Prelude.{◌≡◌, true, false, ◌≤◌, length};
 ghost use Rattle.extents.specs.Extents.{points_end};
 ghost use Rattle.reclassify.specs.Reclassify.{change_at, asked_in, asked_of, reclassified_of};
@@ -9,7 +11,7 @@ use refusal::Refusal;
 use rules::Checked;
 
 // The one byte that another class changes: where it stands in the file, and what it becomes; and the class that the point had.
-#[derive(Drop)]
+#[derive(Clone, Copy)]
 pub struct Change {
     pub at: u64,
     pub byte: u8,
@@ -17,14 +19,14 @@ pub struct Change {
 }
 
 // What is to be changed, or why nothing is, with the record number of the file check's refusal.
-#[derive(Drop)]
+#[derive(Clone, Copy)]
 pub enum Asked {
     Byte(Change),
     Refused { refusal: Refusal, record: u64 },
 }
 
 // The class that the point had, or why it still has it, with the record number of the file check's refusal.
-#[derive(Drop)]
+#[derive(Clone, Copy)]
 pub enum Reclassified {
     Was(u8),
     Refused { refusal: Refusal, record: u64 },

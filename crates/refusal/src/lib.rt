@@ -1,9 +1,11 @@
 // Document 01's refusals, 1 to 27: a case for each row of its table, named as there, with the row's value; then those of document
 // 02's requests, in the order in which they landed.
+#![tactic(auto)]
+
 ghost use Rattle.std.specs.Prelude.{◌≡◌, ◌*◌};
 ghost use Rattle.refusal.specs.Table.{number_of, value_of, row_of, wanted_of};
 
-#[derive(Drop)]
+#[derive(Clone, Copy)]
 pub enum Refusal {
     // Bytes wanted in all, 0 if over 2^64 - 1.
     Short(u64),
@@ -88,7 +90,7 @@ pub enum Refusal {
 }
 
 // A refusal as document 01 returns it: number, value and record number.
-#[derive(Drop)]
+#[derive(Clone, Copy)]
 pub struct Row {
     pub number: u8,
     pub value: u64,

@@ -5,8 +5,10 @@
 // harness in oracle/ from the Rust's own answers (`oracle/run FOLDER --write-replay`), never from this program's: every code
 // and attribute set, each field of the flags at its boundaries, every rank, angles around each rounding, f32 patterns of
 // each kind.
+#![tactic(auto)]
+
 use le::{float, signed};
-use libc::{STDIN_FILENO, STDOUT_FILENO};
+use std::io;
 
 // The bytes of a call, and of as many calls as are read at once.
 const CALL: usize = 12;
@@ -14,54 +16,50 @@ const CALL: usize = 12;
 const READ: usize = 49152;
 
 // What a call answered: the refusal's number, or 0, and the value.
-#[derive(Drop)]
+#[derive(Clone, Copy)]
 struct Answer {
     number: u64,
     value: u64,
 }
 
-fn main() {
+fn main(rt: HostRuntime) -> io::Result<()> {
     // Enough for 131,072 calls; what lies past them is not read.
     for _ in 0..32usize {
-        if !replay_some() {
-            return;
+        if !replay_some(&rt)? {
+            return Ok(());
         }
     }
+    Ok(())
 }
 
 // Replays the calls of one read, and says whether there may be more.
-fn replay_some() -> bool {
+fn replay_some(rt: &HostRuntime) -> io::Result<bool> {
     let mut calls = [0u8; READ];
-    let n = io::read_full(STDIN_FILENO, &mut calls);
-    replay_all(&calls[..n]);
-    n == READ
+    let n = input::read_full(rt, &mut calls)?;
+    replay_all(rt, &calls[..n])?;
+    Ok(n == READ)
 }
 
 // Replays the calls of a slice, one after the other.
-fn replay_all(calls: &[u8]) {
+fn replay_all(rt: &HostRuntime, calls: &[u8]) -> io::Result<()> {
     for i in 0..calls.len() / CALL {
         let at = i * CALL;
         print(
+            rt,
             le::u32_at(calls, at),
             le::u32_at(calls, at + 4),
             le::u32_at(calls, at + 8),
-        );
+        )?;
     }
+    Ok(())
 }
 
 // Prints a call and its answer.
-fn print(op: u32, x: u32, y: u32) {
+fn print(rt: &HostRuntime, op: u32, x: u32, y: u32) -> io::Result<()> {
     let a = called(op, x, y);
-    io::print_decimal(STDOUT_FILENO, op as u64);
-    io::write_all(STDOUT_FILENO, b" ");
-    io::print_decimal(STDOUT_FILENO, x as u64);
-    io::write_all(STDOUT_FILENO, b" ");
-    io::print_decimal(STDOUT_FILENO, y as u64);
-    io::write_all(STDOUT_FILENO, b" ");
-    io::print_decimal(STDOUT_FILENO, a.number);
-    io::write_all(STDOUT_FILENO, b" ");
-    io::print_decimal(STDOUT_FILENO, a.value);
-    io::write_all(STDOUT_FILENO, b"\n");
+    let number = a.number;
+    let value = a.value;
+    println!(rt; "{op} {x} {y} {number} {value}")
 }
 
 // The answer of call op; an unknown one answers number 255.

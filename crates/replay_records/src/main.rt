@@ -13,7 +13,9 @@
 // Both files were written by the harness in oracle/ from the Rust's own answers (`oracle/run FOLDER --write-replay`), but for near
 // infrared 0, which the Rust reads as none and document 02 as a number; never from this program's. oracle/src/replay_records.rs says
 // how the records are chosen.
-use libc::{STDIN_FILENO, STDOUT_FILENO};
+#![tactic(auto)]
+
+use std::io;
 
 // The bytes of a slot, of its five words, and of as many slots as are read at once.
 const SLOT: usize = 512;
@@ -25,38 +27,40 @@ const READ: usize = 65536;
 // The most room that a slot may ask for.
 const ROOM: usize = 512;
 
-fn main() {
+fn main(rt: HostRuntime) -> io::Result<()> {
     // Enough for 4,096 slots; what lies past them is not read.
     for _ in 0..32usize {
-        if !replay_some() {
-            return;
+        if !replay_some(&rt)? {
+            return Ok(());
         }
     }
+    Ok(())
 }
 
 // Replays the slots of one read, and says whether there may be more.
-fn replay_some() -> bool {
+fn replay_some(rt: &HostRuntime) -> io::Result<bool> {
     let mut slots = [0u8; READ];
-    let n = io::read_full(STDIN_FILENO, &mut slots);
-    replay_all(&slots[..n]);
-    n == READ
+    let n = input::read_full(rt, &mut slots)?;
+    replay_all(rt, &slots[..n])?;
+    Ok(n == READ)
 }
 
 // Replays the slots of a slice, one after the other.
-fn replay_all(slots: &[u8]) {
+fn replay_all(rt: &HostRuntime, slots: &[u8]) -> io::Result<()> {
     for i in 0..slots.len() / SLOT {
         let at = i * SLOT;
-        replay(&slots[at..at + SLOT]);
+        replay(rt, &slots[at..at + SLOT])?;
     }
+    Ok(())
 }
 
 // Replays a slot; prints nothing of one that asks for more than there is.
-fn replay(slot: &[u8]) {
+fn replay(rt: &HostRuntime, slot: &[u8]) -> io::Result<()> {
     let mut space = [0u8; ROOM];
     let room = le::u32_at(slot, 12) as usize;
     let end = WORDS + le::u32_at(slot, 16) as usize;
     if ROOM < room || slot.len() < end {
-        return;
+        return Ok(());
     }
     let x = le::u32_at(slot, 4);
     let y = le::u32_at(slot, 8);
@@ -64,44 +68,49 @@ fn replay(slot: &[u8]) {
     // `0..room`, here and below: of `..room` the count would have to be shown.
     let dst = &mut space[0..room];
     match le::u32_at(slot, 0) {
-        1 => replay_point(record, x, y, dst),
-        2 => replay_vlr(record, x != 0, y != 0, dst),
-        3 => replay_header(record, y, dst),
-        _ => return,
+        1 => replay_point(rt, record, x, y, dst),
+        2 => replay_vlr(rt, record, x != 0, y != 0, dst),
+        3 => replay_header(rt, record, y, dst),
+        _ => Ok(()),
     }
 }
 
 // A point, read in one format and written in another.
-fn replay_point(s: &[u8], from: u32, to: u32, dst: &mut [u8]) {
+fn replay_point(rt: &HostRuntime, s: &[u8], from: u32, to: u32, dst: &mut [u8]) -> io::Result<()> {
     let mut row = [0u64; 3];
     let mut numbers = [0u64; 24];
     capi_point::las_point_read(s, from, &mut row, &mut numbers);
-    print_row(b"read", row[0], row[1]);
+    print_row(rt, "read", row[0], row[1])?;
     if row[0] != 0 {
-        print_end();
-        return;
+        return print_end(rt);
     }
     let extra = point::extra_bytes(s, words::format_of(from));
-    print_point(&numbers, extra);
-    write_point(&numbers, extra, to, dst);
+    print_point(rt, &numbers, extra)?;
+    write_point(rt, &numbers, extra, to, dst)
 }
 
 // The rest of a point's line.
-fn print_point(numbers: &[u64; 24], extra: &[u8]) {
-    print_numbers(numbers);
-    print_bytes(extra);
-    print_end();
+fn print_point(rt: &HostRuntime, numbers: &[u64; 24], extra: &[u8]) -> io::Result<()> {
+    print_numbers(rt, numbers)?;
+    print_bytes(rt, extra)?;
+    print_end(rt)
 }
 
 // A point written in a format.
-fn write_point(numbers: &[u64; 24], extra: &[u8], to: u32, dst: &mut [u8]) {
+fn write_point(
+    rt: &HostRuntime,
+    numbers: &[u64; 24],
+    extra: &[u8],
+    to: u32,
+    dst: &mut [u8],
+) -> io::Result<()> {
     let mut row = [0u64; 3];
     capi_point::las_point_write(numbers, extra, to, dst, &mut row);
-    print_written(row[0], row[1], dst);
+    print_written(rt, row[0], row[1], dst)
 }
 
 // A VLR or EVLR, read as the one and written as the other or the same.
-fn replay_vlr(s: &[u8], from: bool, to: bool, dst: &mut [u8]) {
+fn replay_vlr(rt: &HostRuntime, s: &[u8], from: bool, to: bool, dst: &mut [u8]) -> io::Result<()> {
     let mut row = [0u64; 3];
     let mut numbers = [0u64; 3];
     let mut user_id = [0u8; 16];
@@ -114,41 +123,47 @@ fn replay_vlr(s: &[u8], from: bool, to: bool, dst: &mut [u8]) {
         &mut user_id,
         &mut description,
     );
-    print_row(b"read", row[0], row[1]);
+    print_row(rt, "read", row[0], row[1])?;
     if row[0] != 0 {
-        print_end();
-        return;
+        return print_end(rt);
     }
     let data = vlr::data(s, from);
-    print_vlr(&numbers, &user_id, &description, data);
-    write_vlr(to, &numbers, &user_id, &description, data, dst);
+    print_vlr(rt, &numbers, &user_id, &description, data)?;
+    write_vlr(rt, to, &numbers, &user_id, &description, data, dst)
 }
 
 // The rest of a VLR's or EVLR's line.
-fn print_vlr(numbers: &[u64; 3], user_id: &[u8; 16], description: &[u8; 32], data: &[u8]) {
-    print_numbers(numbers);
-    print_bytes(user_id);
-    print_bytes(description);
-    print_bytes(data);
-    print_end();
+fn print_vlr(
+    rt: &HostRuntime,
+    numbers: &[u64; 3],
+    user_id: &[u8; 16],
+    description: &[u8; 32],
+    data: &[u8],
+) -> io::Result<()> {
+    print_numbers(rt, numbers)?;
+    print_bytes(rt, user_id)?;
+    print_bytes(rt, description)?;
+    print_bytes(rt, data)?;
+    print_end(rt)
 }
 
 // A VLR or EVLR written as the one or the other.
 fn write_vlr(
+    rt: &HostRuntime,
     to: bool,
     numbers: &[u64; 3],
     user_id: &[u8; 16],
     description: &[u8; 32],
     data: &[u8],
     dst: &mut [u8],
-) {
+) -> io::Result<()> {
     let mut row = [0u64; 3];
     capi_vlr::las_vlr_write(to, numbers, user_id, description, data, dst, &mut row);
-    print_written(row[0], row[1], dst);
+    print_written(rt, row[0], row[1], dst)
 }
 
 // A header, its end of points, and the header as one of version 1.minor.
-fn replay_header(s: &[u8], minor: u32, dst: &mut [u8]) {
+fn replay_header(rt: &HostRuntime, s: &[u8], minor: u32, dst: &mut [u8]) -> io::Result<()> {
     let mut row = [0u64; 3];
     let mut numbers = [0u64; 51];
     let mut guid = [0u8; 16];
@@ -162,95 +177,97 @@ fn replay_header(s: &[u8], minor: u32, dst: &mut [u8]) {
         &mut system,
         &mut software,
     );
-    print_row(b"read", row[0], row[1]);
+    print_row(rt, "read", row[0], row[1])?;
     if row[0] != 0 {
-        print_end();
-        return;
+        return print_end(rt);
     }
     let padding = header::padding(s);
-    print_header(&numbers, &guid, &system, &software, padding);
-    print_end_of_points(s);
+    print_header(rt, &numbers, &guid, &system, &software, padding)?;
+    print_end_of_points(rt, s)?;
     numbers[3] = minor as u64;
-    write_header(&numbers, &guid, &system, &software, padding, dst);
+    write_header(rt, &numbers, &guid, &system, &software, padding, dst)
 }
 
 // The rest of a header's line.
 fn print_header(
+    rt: &HostRuntime,
     numbers: &[u64; 51],
     guid: &[u8; 16],
     system: &[u8; 32],
     software: &[u8; 32],
     padding: &[u8],
-) {
-    print_numbers(numbers);
-    print_bytes(guid);
-    print_bytes(system);
-    print_bytes(software);
-    print_bytes(padding);
-    print_end();
+) -> io::Result<()> {
+    print_numbers(rt, numbers)?;
+    print_bytes(rt, guid)?;
+    print_bytes(rt, system)?;
+    print_bytes(rt, software)?;
+    print_bytes(rt, padding)?;
+    print_end(rt)
 }
 
 // The line of the end of points of the header at the front of s.
-fn print_end_of_points(s: &[u8]) {
+fn print_end_of_points(rt: &HostRuntime, s: &[u8]) -> io::Result<()> {
     let mut row = [0u64; 3];
     capi_header::las_header_end_of_points(s, &mut row);
-    print_row(b"end", row[0], row[1]);
-    print_end();
+    print_row(rt, "end", row[0], row[1])?;
+    print_end(rt)
 }
 
 // A header and its padding, written.
 fn write_header(
+    rt: &HostRuntime,
     numbers: &[u64; 51],
     guid: &[u8; 16],
     system: &[u8; 32],
     software: &[u8; 32],
     padding: &[u8],
     dst: &mut [u8],
-) {
+) -> io::Result<()> {
     let mut row = [0u64; 3];
     capi_header_write::las_header_write(numbers, guid, system, software, padding, dst, &mut row);
-    print_written(row[0], row[1], dst);
+    print_written(rt, row[0], row[1], dst)
 }
 
 // The line of a write, with the bytes that it put at the front of dst.
-fn print_written(number: u64, value: u64, dst: &[u8]) {
-    print_row(b"write", number, value);
+fn print_written(rt: &HostRuntime, number: u64, value: u64, dst: &[u8]) -> io::Result<()> {
+    print_row(rt, "write", number, value)?;
     let end = value as usize;
     if number == 0 && end <= dst.len() {
-        print_bytes(&dst[0..end]);
+        print_bytes(rt, &dst[0..end])?;
     }
-    print_end();
+    print_end(rt)
 }
 
 // How a line begins.
-fn print_row(name: &[u8], number: u64, value: u64) {
-    io::write_all(STDOUT_FILENO, name);
-    print_number(number);
-    print_number(value);
+fn print_row(rt: &HostRuntime, name: &str, number: u64, value: u64) -> io::Result<()> {
+    print!(rt; "{name}")?;
+    print_number(rt, number)?;
+    print_number(rt, value)
 }
 
-fn print_end() {
-    io::write_all(STDOUT_FILENO, b"\n");
+fn print_end(rt: &HostRuntime) -> io::Result<()> {
+    println!(rt; "")
 }
 
-fn print_number(n: u64) {
-    io::write_all(STDOUT_FILENO, b" ");
-    io::print_decimal(STDOUT_FILENO, n);
+fn print_number(rt: &HostRuntime, n: u64) -> io::Result<()> {
+    print!(rt; " {n}")
 }
 
-fn print_numbers(numbers: &[u64]) {
+fn print_numbers(rt: &HostRuntime, numbers: &[u64]) -> io::Result<()> {
     for i in 0..numbers.len() {
-        print_number(numbers[i]);
+        print_number(rt, numbers[i])?;
     }
+    Ok(())
 }
 
-fn print_bytes(bytes: &[u8]) {
-    io::write_all(STDOUT_FILENO, b" x");
+fn print_bytes(rt: &HostRuntime, bytes: &[u8]) -> io::Result<()> {
+    print!(rt; " x")?;
     for i in 0..bytes.len() {
-        print_byte(bytes[i]);
+        print_byte(rt, bytes[i])?;
     }
+    Ok(())
 }
 
-fn print_byte(byte: u8) {
-    io::print_hex(STDOUT_FILENO, byte as u64, 2);
+fn print_byte(rt: &HostRuntime, byte: u8) -> io::Result<()> {
+    print!(rt; "{byte:02x}")
 }

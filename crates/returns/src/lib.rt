@@ -1,4 +1,6 @@
 // The return numbers of a file's points: how many records have each, and how many have one that cannot be. Added by document 02, No. 12.
+#![tactic(auto)]
+
 ghost use Rattle.std.specs.Prelude.{◌≡◌, cond, ◌+◌, ◌*◌, ◌≤◌, length};
 ghost use Rattle.format.specs.Fields.{record_bytes};
 ghost use Rattle.returns.specs.Returns.{mark_of, is_odd, odd_in, counted_of, survey_at, survey_of};
@@ -8,14 +10,14 @@ use layout::Layout;
 use walker::Start;
 
 // A point's return number, and its number of returns.
-#[derive(Drop)]
+#[derive(Clone, Copy)]
 pub struct Mark {
     pub number: u8,
     pub of: u8,
 }
 
 // How many records have each return number, 0 to 15, and how many have 0 or one above their number of returns.
-#[derive(Drop)]
+#[derive(Clone, Copy)]
 pub struct Counted {
     pub numbers: [u64; 16],
     pub odd: u64,
@@ -23,7 +25,7 @@ pub struct Counted {
 
 // The points of a file: whether their format is of 6 to 10, the first byte of the first, the record length, how many there are, and their
 // return numbers.
-#[derive(Drop)]
+#[derive(Clone, Copy)]
 pub struct Survey {
     pub extended: bool,
     pub at: usize,

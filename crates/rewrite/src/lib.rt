@@ -1,4 +1,6 @@
 // Rewriting: each part of a file is read, and what its reader answers is written to the same place of the destination.
+#![tactic(auto)]
+
 ghost use Rattle.std.specs.Prelude.{◌≡◌, ◌++◌, ◌≤◌, length, drop};
 ghost use Rattle.cursor.specs.Cursor.{left_of};
 ghost use Rattle.rewrite.specs.Rewritten.{back_of, rewritten_of};
@@ -14,7 +16,7 @@ use refusal::Refusal;
 use vlr::Vlr;
 
 // The bytes written, which are those of the file, or a refusal with its record number.
-#[derive(Drop)]
+#[derive(Clone, Copy)]
 pub enum Rewrote {
     Bytes(usize),
     Refused { refusal: Refusal, record: u64 },

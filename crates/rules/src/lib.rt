@@ -1,5 +1,7 @@
 // Document 01, "When a file is accepted": the rules that need no more than the header's outline, 2 to 5, and the walk over records
 // of rules 6 and 8.
+#![tactic(auto)]
+
 ghost use Rattle.std.specs.Prelude.{◌≡◌, ◌+◌, ◌-◌, ◌<◌};
 ghost use Rattle.rules.specs.declared.Checked.TheVariants as checked;
 ghost use Rattle.rules.specs.Rules.{first, highest_format, format_bytes, header_rules, too_far, no_length, record_rules};
@@ -11,7 +13,7 @@ use refusal::Refusal;
 use vlr::{Extent, RecordLength, StatedLength};
 
 // Accepted or refused, with the number of records found whole before the answer; a refusal has its record number beside it.
-#[derive(Drop)]
+#[derive(Clone, Copy)]
 pub enum Checked {
     Accepted {
         records: u64,
@@ -24,7 +26,7 @@ pub enum Checked {
 }
 
 // The bytes of a record, head and data, or 11 or 13.
-#[derive(Drop)]
+#[derive(Clone, Copy)]
 enum Measured {
     Bytes(usize),
     Refused(Refusal),

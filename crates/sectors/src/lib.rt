@@ -1,5 +1,7 @@
 // Records added to a lent file as stores of whole sectors, one call for one store, so that a caller can bring each to the card before the
 // next. From document 02, No. 1: "point sectors ascending, each with the old header, then sector 0 with the new".
+#![tactic(auto)]
+
 ghost use Rattle.std.specs.Prelude.{◌≡◌, ◌+◌, ◌-◌, ◌*◌, ◌≤◌, ◌<◌, min, max, length};
 ghost use Rattle.refusal.specs.Table.{wanted_of};
 ghost use Rattle.sectors.specs.Sectors.{point_stores, stores_of, sector_of, with_records, with_header, stored_of};
@@ -9,7 +11,7 @@ use refusal::Refusal;
 
 // A sector as the caller writes it to the card: its first byte and its bytes in the file, 512 but for the file's last. Or all stores are
 // done; or why none is made.
-#[derive(Drop)]
+#[derive(Clone, Copy)]
 pub enum Stored {
     Sector { at: u64, len: u64 },
     Done,

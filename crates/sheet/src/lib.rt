@@ -1,4 +1,6 @@
 // The site sheet: one sheet for many files, each added to it by itself. Added by document 02, No. 9.
+#![tactic(auto)]
+
 ghost use Rattle.std.specs.Prelude.{◌≡◌, true, length};
 ghost use Rattle.sheet.specs.Sheet.{empty_sheet, fits_in, all_fit, totals_fit, sums, both_bounds, grown_by, added_to, added_of};
 
@@ -8,7 +10,7 @@ use walker::Start;
 
 // How many files and points there are, the smallest and largest X, Y and Z as stored, whatever the files' scales, and the points of each
 // class and of each return number, 0 too.
-#[derive(Drop)]
+#[derive(Clone, Copy)]
 pub struct Sheet {
     pub files: u64,
     pub points: u64,
@@ -18,14 +20,14 @@ pub struct Sheet {
 }
 
 // Whether a file was added, or why not, with the record number of the file check's refusal.
-#[derive(Drop)]
+#[derive(Clone, Copy)]
 pub enum Answer {
     Added,
     Refused { refusal: Refusal, record: u64 },
 }
 
 // The answer, and the sheet after it.
-#[derive(Drop)]
+#[derive(Clone, Copy)]
 pub struct Added {
     pub answer: Answer,
     pub sheet: Sheet,

@@ -1,5 +1,7 @@
 // One file's points counted for the site sheet: by class, by return number, and the smallest and largest X, Y and Z, in one pass over
 // the records. Added by document 02, No. 9.
+#![tactic(auto)]
+
 ghost use Rattle.std.specs.Prelude.{◌≡◌, ◌+◌, ◌*◌, ◌≤◌, ◌<◌, length, replicate};
 ghost use Rattle.sheet_count.specs.Count.{least_of, most_of, both, both_extents, class_in, return_in, extent_in, tallied_at};
 ghost use Rattle.sheet_count.specs.File.{counted_of};
@@ -8,14 +10,14 @@ use layout::Layout;
 use walker::Start;
 
 // The smallest and the largest of some stored numbers.
-#[derive(Drop)]
+#[derive(Clone, Copy)]
 pub struct Range {
     pub min: i32,
     pub max: i32,
 }
 
 // Those of X, Y and Z.
-#[derive(Drop)]
+#[derive(Clone, Copy)]
 pub struct Extent {
     pub x: Range,
     pub y: Range,
@@ -23,14 +25,14 @@ pub struct Extent {
 }
 
 // With no points at all there are none.
-#[derive(Drop)]
+#[derive(Clone, Copy)]
 pub enum Bounds {
     None,
     Are(Extent),
 }
 
 // How many points there are, how many of each class and of each return number, 0 too, and their bounds.
-#[derive(Drop)]
+#[derive(Clone, Copy)]
 pub struct Tally {
     pub points: u64,
     pub classes: [u64; 256],
@@ -39,7 +41,7 @@ pub struct Tally {
 }
 
 // What the walker of a file starts with, the file check's answer, and the file's counts: none where it is refused.
-#[derive(Drop)]
+#[derive(Clone, Copy)]
 pub struct Counted {
     pub start: Start,
     pub tally: Tally,

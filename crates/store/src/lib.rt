@@ -1,5 +1,7 @@
 // Stores into a lent slice at a place, and bytes copied out of one. All are total: what would lie past the end is left out, and
 // counts as 0.
+#![tactic(auto)]
+
 ghost use Rattle.std.specs.Prelude.{◌≡◌, [], ◌∷◌};
 ghost use Rattle.std.proofs.lemmas.List.Edits.{sets};
 ghost use Rattle.le.specs.Le.{bytes};

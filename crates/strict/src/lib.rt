@@ -1,5 +1,7 @@
 // One record of the strict conversion and of the upgrade, added by document 01: whether a point can be made old with every
 // field the same, and an old point made new. The bytes are the point writer's.
+#![tactic(auto)]
+
 ghost use Rattle.std.specs.Prelude.{◌≡◌};
 ghost use Rattle.angle.specs.Angle.{nearest_rank};
 ghost use Rattle.strict.specs.Fit.{first_of, overlap_goes, readings_fit, flags_fit_of, nir_fit_of, rank_fits, angle_fit_of, fields_fit, fit_of};
@@ -23,7 +25,7 @@ const LOWEST_SCALED: i16 = -15083;
 const HIGHEST_SCALED: i16 = 15083;
 
 // Whether a point goes into the old format with every field the same, or the first field that does not.
-#[derive(Drop)]
+#[derive(Clone, Copy)]
 pub enum Fit {
     Fits,
     Refused(Refusal),

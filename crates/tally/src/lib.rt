@@ -1,4 +1,6 @@
 // Point records counted by return number, as the header of versions 1.0 to 1.3 counts them. Added by document 02, No. 1.
+#![tactic(auto)]
+
 ghost use Rattle.std.specs.Prelude.{◌≡◌, ◌*◌, ◌≤◌, cond, length};
 ghost use Rattle.format.specs.declared.FormatLen.TheVariants as len;
 ghost use Rattle.format.specs.Fields.{len_of};
@@ -9,7 +11,7 @@ use point::marks::{Marks, MarksRead};
 use refusal::Refusal;
 
 // How many records have return number 1, 2, 3, 4 and 5; those of 0, 6 and 7 are counted nowhere.
-#[derive(Drop)]
+#[derive(Clone, Copy)]
 pub struct ByReturn {
     pub first: u64,
     pub second: u64,
@@ -18,7 +20,7 @@ pub struct ByReturn {
     pub fifth: u64,
 }
 
-#[derive(Drop)]
+#[derive(Clone, Copy)]
 pub enum Tally {
     Is(ByReturn),
     Refused(Refusal),

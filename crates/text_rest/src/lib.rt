@@ -1,4 +1,6 @@
 // Text fields, which end at their first zero: whether anything else stands after it. Added by document 02, No. 12.
+#![tactic(auto)]
+
 ghost use Rattle.std.specs.Prelude.{◌≡◌, true, take, drop};
 ghost use Rattle.text_rest.specs.Rest.{rest_after, rest_of};
 

@@ -1,5 +1,7 @@
 // Variable length records and extended ones: a head of 54 or 60 bytes, then as many bytes of data as the head states.
 // From src/raw/vlr.rs of las 0.11.2; the data is a part of the caller's bytes and no field.
+#![tactic(auto)]
+
 ghost use Rattle.std.specs.Prelude.{◌≡◌, ◌+◌, ◌≤◌, length};
 ghost use Rattle.refusal.specs.declared.Refusal.TheVariants.{Short};
 ghost use Rattle.vlr.specs.declared.RecordLength.TheVariants as kind;
@@ -11,13 +13,13 @@ ghost use Rattle.vlr.specs.Vlr.{data_length, length_of, stated_of, vlr_of, no_vl
 use refusal::Refusal;
 
 // The length of the data: a u16 in a VLR, a u64 in an EVLR.
-#[derive(Drop)]
+#[derive(Clone, Copy)]
 pub enum RecordLength {
     Vlr(u16),
     Evlr(u64),
 }
 
-#[derive(Drop)]
+#[derive(Clone, Copy)]
 pub struct Vlr {
     pub reserved: u16,
     pub user_id: [u8; 16],
@@ -27,21 +29,21 @@ pub struct Vlr {
 }
 
 // The length that a head states, or refusal 1 where the head is not all there.
-#[derive(Drop)]
+#[derive(Clone, Copy)]
 pub enum StatedLength {
     Is(RecordLength),
     Refused(Refusal),
 }
 
 // How many bytes a record takes, head and data, or why it can't be read.
-#[derive(Drop)]
+#[derive(Clone, Copy)]
 pub enum Extent {
     Bytes(usize),
     Refused(Refusal),
 }
 
 // The answer, and beside it the record; the default one where the answer is a refusal.
-#[derive(Drop)]
+#[derive(Clone, Copy)]
 pub struct VlrRead {
     pub answer: Extent,
     pub vlr: Vlr,

@@ -1,5 +1,7 @@
 // A VLR or an EVLR, written: `Vlr::write_to` of src/raw/vlr.rs of las 0.11.2. It stands apart from crate `vlr`, as
 // `point_write` and `header_write` do from theirs, to keep checks short.
+#![tactic(auto)]
+
 ghost use Rattle.std.specs.Prelude.{◌≡◌};
 ghost use Rattle.fields.specs.Table.{Stored};
 ghost use Rattle.vlr.specs.Layout.{fields, width, place};

@@ -1,4 +1,6 @@
 // A walker over the points of a lent file: each record in turn, and at the end 27. Added by document 01.
+#![tactic(auto)]
+
 ghost use Rattle.std.specs.Prelude.{◌≡◌};
 ghost use Rattle.walker.specs.Begin.{first_place, refused_place, begin_of, walker_of};
 ghost use Rattle.walker.specs.Walk.{whole_at, record_of, refusal_of, took_of, next_of};
@@ -11,7 +13,7 @@ use refusal::Refusal;
 use rules::Checked;
 
 // How the walk began: the file check's answer, and its record number beside a refusal.
-#[derive(Drop)]
+#[derive(Clone, Copy)]
 pub enum Start {
     Accepted,
     Refused { refusal: Refusal, record: u64 },
@@ -19,7 +21,7 @@ pub enum Start {
 
 // Where a walker stands: the place of the next record, how many are left of the file's count, and the format, whose extra
 // bytes make its length the header's record length.
-#[derive(Drop)]
+#[derive(Clone, Copy)]
 pub struct Place {
     pub format: Format,
     pub at: usize,
@@ -29,21 +31,21 @@ pub struct Place {
 }
 
 // A point, or why there is none, with the record number of the file check's refusal.
-#[derive(Drop)]
+#[derive(Clone, Copy)]
 pub enum Walked {
     Point(Point),
     Refused { refusal: Refusal, record: u64 },
 }
 
 // What a walker answers, and where it stands then.
-#[derive(Drop)]
+#[derive(Clone, Copy)]
 pub struct Took {
     pub answer: Walked,
     pub next: Place,
 }
 
 // The lent file, and where the walker stands in it.
-#[derive(Drop)]
+#[derive(Clone, Copy)]
 pub struct Walker<'a> {
     pub file: &'a [u8],
     pub place: Place,

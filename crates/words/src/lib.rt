@@ -1,5 +1,7 @@
 // What C cannot hold, as a word: a u32 with its parts at fixed bits; an answer that may be a refusal, as a row of three
 // numbers that the caller lends; and the numbers that stand for a struct, one after the other.
+#![tactic(auto)]
+
 ghost use Rattle.std.specs.Prelude.{◌≡◌, [], ◌∷◌, ◌%◌, ◌≤◌, get_or};
 ghost use Rattle.flags.specs.Bytes.{flag};
 ghost use Rattle.words.specs.Words.{packed_of, angle_of, angle_word, flags_of, flags_word, format_of_word, format_word};

@@ -1,0 +1,8 @@
+use mathlib.Core.Path.{refl}
+use borrow.Author.Rules.{rules}
+use Rattle.attribute.specs.Attributes.{ended}
+use Rattle.attribute.proofs.ended.Goals as goal
+
+pub returns : goal.returns
+unfolding ended
+returns c = refl

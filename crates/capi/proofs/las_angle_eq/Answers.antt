@@ -1,0 +1,5 @@
+use borrow.Author.Rules.{rules}
+use Rattle.capi.proofs.las_angle_eq.Goals as goal
+
+pub returns : goal.returns
+returns c = cc

@@ -1,0 +1,14 @@
+use mathlib.Core.List.{[], ◌∷◌}
+use Rattle.capi_cursor.specs.Numbers.{cursor_numbers}
+use borrow.Author.Rules.{rules}
+use Rattle.capi_cursor.proofs.cursor_numbers.Goals as goal
+
+pub returns : goal.returns
+unfolding cursor_numbers
+returns c =
+    let stage = c in
+    let p = stage.args.c in
+    λ i.
+    stage.stage_number.ensures i ∷ p.at ∷ p.left ∷
+    p.plan.header_size ∷ p.plan.number_of_vlrs ∷ p.plan.points ∷ p.plan.«end» ∷
+    p.plan.start_of_later_records ∷ p.plan.number_of_later_records ∷ c.yes.ensures i ∷ []

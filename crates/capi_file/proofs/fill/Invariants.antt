@@ -1,0 +1,20 @@
+use Prim.Native.Nat.{◌+◌, ◌*◌, ◌≤◌}
+use mathlib.Core.Path.{◌≡◌, refl, ap, sym, ◌∙◌}
+use native.Mathlib.Omega.{arith}
+use borrow.Author.Rules.{rules}
+use lib.ListN.{length, set, length-set}
+use lib.Seq.{sets}
+use Rattle.lent.specs.Laws.{whole}
+use Rattle.cursor.specs.Cursor.{left_of, told_by}
+use Rattle.cursor.specs.Count.{told-one, told-all}
+use Rattle.capi_file.specs.Parts.{numbers_of}
+use Rattle.capi_file.proofs.Stored.{length-numbers, told-first, turn, ended}
+use Rattle.capi_file.proofs.fill.Given as goal
+
+-- The invariant: what the step and its cursor have still to tell, stored from here on, makes the whole.
+abbrev pub invariant-loop-step : goal.invariant-loop-step
+invariant-loop-step l =
+    (l.at + 3 * length (told_by (left_of l.file) l.step) ≤ length l.table) × (length l.table ≡ length l.initial.table) × (sets l.table l.at (numbers_of (told_by (left_of l.file) l.step)) ≡ sets l.initial.table 0 (numbers_of (told_by (left_of l.file) l.initial.step)))
+
+abbrev pub decreases-loop-step : goal.decreases-loop-step
+decreases-loop-step l = length (told_by (left_of l.file) l.step)

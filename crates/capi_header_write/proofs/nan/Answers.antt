@@ -1,0 +1,7 @@
+use mathlib.Core.Path.{ap, ◌∙◌}
+use Rattle.le.specs.Real.{f64_of}
+use borrow.Author.Rules.{rules}
+use Rattle.capi_header_write.proofs.nan.Goals as goal
+
+pub returns : goal.returns
+returns c = λ i. ((c.f64_of.ensures ∙ ap f64_of c.nth.ensures) i).nan

@@ -1,0 +1,20 @@
+use Prim.Native.Nat.{ℕ}
+use mathlib.Core.List.{List}
+use mathlib.Core.Path.{sym, ap, ◌∙◌}
+use Rattle.format.specs.declared.Format.{Format}
+use Rattle.point.specs.Read.{read_of}
+use Rattle.capi_point.specs.Numbers.{read_row}
+use borrow.Author.Rules.{rules}
+use Rattle.capi_point.proofs.las_point_read.Goals as goal
+
+pub returns-in-Is : goal.returns-in-Is
+returns-in-Is c =
+    let a = c.args in
+    (λ i. (c.tell.ensures i, c.numbers_of.ensures i))
+    ∙ ap (read_row a.numbers.now) (sym c.in-Is.is ∙ c.read_from.ensures ∙ ap (λ (f : Format). read_of f a.s.now) c.format_of.ensures)
+
+pub returns-in-Refused : goal.returns-in-Refused
+returns-in-Refused c =
+    let a = c.args in
+    ap (λ (r : List ℕ). (r, a.numbers.now)) c.refuse.ensures
+    ∙ ap (read_row a.numbers.now) (sym c.in-Refused.is ∙ c.read_from.ensures ∙ ap (λ (f : Format). read_of f a.s.now) c.format_of.ensures)

@@ -1,0 +1,23 @@
+use Rattle.capi_point.specs.Numbers.{waveform_from}
+use borrow.Author.Rules.{rules}
+use Rattle.capi_point.proofs.waveform_from.Goals as goal
+
+pub returns : goal.returns
+unfolding waveform_from
+returns c =
+    let a = c.args in
+    λ i. record {
+      wave_packet_descriptor_index = a.index;
+      byte_offset_to_waveform_data = a.offset;
+      waveform_packet_size_in_bytes = a.size;
+      return_point_waveform_location = (c.f32_of-location.ensures i).value;
+      x_t = (c.f32_of-x_t.ensures i).value;
+      y_t = (c.f32_of-y_t.ensures i).value;
+      z_t = (c.f32_of-z_t.ensures i).value;
+      nans = record {
+        return_point_waveform_location = (c.f32_of-location.ensures i).nan;
+        x_t = (c.f32_of-x_t.ensures i).nan;
+        y_t = (c.f32_of-y_t.ensures i).nan;
+        z_t = (c.f32_of-z_t.ensures i).nan;
+      };
+    }

@@ -1,0 +1,16 @@
+use Prim.Native.Nat.{◌+◌, ◌-◌}
+use native.Mathlib.Omega.{arith}
+use borrow.Author.Rules.{rules}
+use lib.ListN.{drop}
+use mir.Syntax.{w32}
+use mir.Val.{to_z}
+use Rattle.le.specs.Laws.{num-lt, bytes_take, bytes_drop}
+use Rattle.column.specs.Fill.{stored, Filling, Ahead, begun, ahead, step, done}
+use Rattle.column.proofs.fill_i32.Given as goal
+
+-- The loop goes by `Filling`, the one law of every width (specs/Fill.antt).
+abbrev pub invariant-loop-i : goal.invariant-loop-i
+invariant-loop-i l = Filling (to_z w32) 4 l.first l.stride l.n l.s l.initial.dst l.dst l.at l.i
+
+abbrev pub decreases-loop-i : goal.decreases-loop-i
+decreases-loop-i l = l.n - l.i

@@ -1,0 +1,44 @@
+use Prim.Native.Nat.{◌-◌}
+use native.Mathlib.Omega.{arith}
+use borrow.Author.Rules.{rules}
+use Rattle.column.specs.Column.{same}
+use Rattle.column.specs.Fill.{Filling, Ahead, begun, ahead, step, done}
+use Rattle.column.proofs.fill_u16.Goals as goal
+use Rattle.column.proofs.fill_u16.Goals.{In-loop-i}
+
+turn : (c : In-loop-i) → Ahead 2 c.args.stride c.args.s.now c.loop-i.at c.loop-i.i
+turn c = ahead c.loop-i.invariant c.requires.0 c.loop-i-test.true
+
+pub loop-i-preserved : goal.loop-i-preserved
+loop-i-preserved c =
+    step c.loop-i.invariant c.loop-i-test.true c.requires.1 c.u16_at.ensures
+
+pub loop-i-init : goal.loop-i-init
+loop-i-init c = begun
+
+pub overflow_add-to : goal.overflow_add-to
+overflow_add-to c = omega (arith, (turn c).ends)
+
+pub slice_bounds-u16_at-start : goal.slice_bounds-u16_at-start
+slice_bounds-u16_at-start c = omega (arith, (turn c).ends)
+
+pub slice_bounds-u16_at-end : goal.slice_bounds-u16_at-end
+slice_bounds-u16_at-end c = omega (arith, (turn c).ends)
+
+pub offset_bounds-dst-i : goal.offset_bounds-dst-i
+offset_bounds-dst-i c = omega (arith, (turn (goal.at.offset_bounds-dst-i c).In-loop-i).small)
+
+pub bounds-dst-i : goal.bounds-dst-i
+bounds-dst-i c = omega (arith, c.loop-i.invariant.kept, c.loop-i-test.true)
+
+pub overflow_add-at : goal.overflow_add-at
+overflow_add-at c = omega (arith, (turn (goal.at.overflow_add-at c).In-loop-i).further, (turn (goal.at.overflow_add-at c).In-loop-i).ends)
+
+pub loop-i-smaller : goal.loop-i-smaller
+loop-i-smaller c = omega (arith, c.loop-i-test.true)
+
+pub shape_of-dst : goal.shape_of-dst
+shape_of-dst c = c.loop-i.invariant.kept
+
+pub returns : goal.returns
+returns c = done c.loop-i.invariant c.loop-i-test.false

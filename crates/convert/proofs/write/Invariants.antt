@@ -1,0 +1,22 @@
+use Prim.Native.Nat.{◌+◌, ◌-◌, ◌*◌, ◌≤◌}
+use mathlib.Core.Path.{◌≡◌, refl, ◌∙◌}
+use native.Mathlib.Omega.{arith}
+use borrow.Author.Rules.{rules}
+use lib.ListN.{length, drop, length-take, length-drop}
+use lib.Seq.{sets}
+use Rattle.lent.specs.Laws.{whole, less_one}
+use Rattle.lent.specs.Records.{record_length_lem}
+use Rattle.angle.specs.Table.{scaled_table}
+use Rattle.convert.specs.Run.{images_of}
+use Rattle.convert.specs.Asked.{TakesRun}
+use Rattle.convert.specs.Laws.{images-length}
+use Rattle.convert.proofs.Turn.{takes_step, write_turn}
+use Rattle.convert.proofs.write.Given as goal
+
+-- The invariant is over what is left: laid from here on, it makes of the destination what is promised.
+abbrev pub invariant-loop-left : goal.invariant-loop-left
+invariant-loop-left l =
+    (l.at + l.left * l.plan.source_length ≤ length l.src) × (l.to + l.left * l.plan.target_length ≤ length l.dst) × (length l.dst ≡ length l.initial.dst) × TakesRun l.up l.plan l.left (drop l.at l.src) × (sets l.dst l.to (images_of l.up l.plan l.left (drop l.at l.src)) ≡ sets l.initial.dst 0 (images_of l.up l.plan l.count l.src)) × (l.table ≡ scaled_table)
+
+abbrev pub decreases-loop-left : goal.decreases-loop-left
+decreases-loop-left l = l.left

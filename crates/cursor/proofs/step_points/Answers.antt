@@ -1,0 +1,5 @@
+use borrow.Author.Rules.{rules}
+use Rattle.cursor.proofs.step_points.Goals as goal
+
+pub returns : goal.returns
+returns c = rw (← c.distance.ensures) c.told.ensures

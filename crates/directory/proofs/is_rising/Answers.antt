@@ -1,0 +1,9 @@
+use borrow.Author.Rules.{rules}
+use borrow.Author.Tests.{eq-eqb, ne_eqb}
+use Rattle.directory.proofs.is_rising.Goals as goal
+
+pub returns-then-k-eq0 : goal.returns-then-k-eq0
+returns-then-k-eq0 c = rw (eq-eqb _ _ c.if-k-eq0.true)
+
+pub returns : goal.returns
+returns c = rw (ne_eqb _ _ c.if-k-eq0.false, c.key_at.ensures, c.key_at-2.ensures)

@@ -1,0 +1,32 @@
+use Prim.Native.Nat.{ℕ}
+use mathlib.Core.Path.{◌≡◌, ap, sym, ◌∙◌}
+use native.Mathlib.Omega.{arith}
+use borrow.Author.Rules.{rules}
+use lib.ListN.{length}
+use Rattle.finding.specs.Told.{plus, told-nowhere}
+use Rattle.findings.specs.Found.{odd_points}
+use Rattle.findings.specs.Laws.{odd_all, told-empty}
+use Rattle.findings.proofs.tell_points.Goals as goal
+use Rattle.findings.proofs.tell_points.Goals.{Start}
+
+-- the survey counted them
+counted : (x : Start) → length (odd_points x.args.file.now x.args.survey x.args.number) ≡ x.args.survey.returns.odd
+unfolding odd_points
+counted x =
+    let v = x.args.survey in
+    odd_all x.args.file.now v.extended v.at v.each x.args.number v.count ∙ sym x.requires.odd
+
+pub returns-then-out-eq0 : goal.returns-then-out-eq0
+returns-then-out-eq0 c =
+    let a = c.args in
+    let fs = odd_points a.file.now a.survey a.number in
+    ap (λ (k : ℕ). (k, a.out.now)) (c.plus.ensures ∙ ap (plus a.n) (sym (counted (goal.at.returns-then-out-eq0 c).Start))) ∙ sym (told-nowhere fs a.n a.out.now (omega (arith, c.if-out-eq0.true)))
+
+pub returns-then-returns-eq0 : goal.returns-then-returns-eq0
+returns-then-returns-eq0 c =
+    let a = c.args in
+    sym (told-empty (odd_points a.file.now a.survey a.number) (a.n, a.out.now) (counted (goal.at.returns-then-returns-eq0 c).Start ∙ c.if-returns-eq0.true))
+
+pub returns : goal.returns
+unfolding odd_points
+returns c = c.tell_odd.ensures

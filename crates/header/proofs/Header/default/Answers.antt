@@ -1,0 +1,7 @@
+use borrow.Author.Rules.{rules}
+use Rattle.header.specs.Header.{default_header}
+use Rattle.header.proofs.Header.default.Goals as goal
+
+pub returns : goal.returns
+unfolding default_header
+returns c = rw c.no_nans.ensures

@@ -1,0 +1,6 @@
+use mathlib.Core.Path.{ap, ◌∙◌}
+use Rattle.le.specs.Real.{f64_of}
+use Rattle.le.proofs.f64_at.Goals as goal
+
+pub returns : goal.returns
+returns c = c.f64_of.ensures ∙ ap f64_of c.u64_at.ensures

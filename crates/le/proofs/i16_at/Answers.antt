@@ -1,0 +1,9 @@
+use mathlib.Core.Path.{ap, ◌∙◌}
+use mir.Syntax.{w16}
+use mir.Val.{to_z}
+use Rattle.le.proofs.Twos.{kept}
+use Rattle.le.proofs.i16_at.Goals as goal
+
+pub returns : goal.returns
+returns c =
+    kept w16 _ c.signed16.type_inv ∙ c.signed16.ensures ∙ ap (to_z w16) c.u16_at.ensures

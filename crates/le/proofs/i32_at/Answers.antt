@@ -1,0 +1,9 @@
+use mathlib.Core.Path.{ap, ◌∙◌}
+use mir.Syntax.{w32}
+use mir.Val.{to_z}
+use Rattle.le.proofs.Twos.{kept}
+use Rattle.le.proofs.i32_at.Goals as goal
+
+pub returns : goal.returns
+returns c =
+    kept w32 _ c.signed32.type_inv ∙ c.signed32.ensures ∙ ap (to_z w32) c.u32_at.ensures

@@ -1,0 +1,5 @@
+use borrow.Author.Rules.{rules}
+use Rattle.outline.proofs.number_of.Goals as goal
+
+pub returns-then-waveform : goal.returns-then-waveform
+returns-then-waveform c = rw c.if-waveform.true

@@ -1,0 +1,7 @@
+use mathlib.Core.Path.{ap, ◌∙◌}
+use borrow.Author.Rules.{rules}
+use Rattle.pairs.specs.Pairs.{planned_by}
+use Rattle.pairs.proofs.to_old.Goals as goal
+
+pub returns : goal.returns
+returns c = c.plan_for.ensures ∙ ap (planned_by c.args.format) c.old_pair.ensures

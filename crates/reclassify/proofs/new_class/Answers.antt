@@ -1,0 +1,6 @@
+use borrow.Author.Rules.{rules}
+use Rattle.reclassify.specs.declared.Asked.TheVariants.{Byte}
+use Rattle.reclassify.proofs.new_class.Goals as goal
+
+pub returns : goal.returns
+returns c = let a = c.args in λ i. Byte (record { at = a.at; byte = a.class; class = c.u8_at-byte.ensures i })

@@ -1,0 +1,11 @@
+use mathlib.Core.Path.{ap, ◌∙◌}
+use mathlib.Core.List.{List}
+use Prim.Native.Nat.{ℕ}
+use borrow.Author.Rules.{rules}
+use Rattle.lent.specs.declared.Wrote.{Wrote}
+use Rattle.lent.specs.Laws.{front}
+use Rattle.rewrite.proofs.copy_gap.Goals as goal
+
+pub returns : goal.returns
+returns c =
+    ap (λ (p : Wrote × List ℕ). p.1) (c.put.ensures ∙ front c.args.src.now c.args.dst.now c.requires)

@@ -1,0 +1,24 @@
+use Prim.Native.Nat.{ℕ, ◌+◌, ◌≤◌}
+use mathlib.Core.Path.{◌≡◌, refl, ap, ◌∙◌}
+use mathlib.Core.List.{◌∷◌}
+use native.Mathlib.Omega.{arith}
+use borrow.Author.Rules.{rules}
+use lib.ListN.{length, length-take, length-drop}
+use lib.Seq.{sets}
+use Rattle.le.specs.Le.{Bytes}
+use Rattle.lent.specs.Laws.{whole}
+use Rattle.cursor.specs.Cursor.{left_of}
+use Rattle.rewrite.specs.Rewritten.{back_of}
+use Rattle.rewrite.specs.Asked.{Tiles}
+use Rattle.rewrite.specs.Whole.{first_ends, length_tiles}
+use Rattle.rewrite.proofs.Turn.{cut-length, cut-whole, part_turn, first-left, none_left}
+use Rattle.rewrite.proofs.rewrite_parts.Given as goal
+
+-- The invariant is over the parts that are left: from a place on they cover the file, and laid there they make of the
+-- destination what is promised.
+abbrev pub invariant-loop-o : goal.invariant-loop-o
+invariant-loop-o l =
+    (at : ℕ) × Tiles l.o l.file at (left_of l.file l.c) × (length l.dst ≡ length l.initial.dst) × (sets l.dst at (back_of l.o l.file (left_of l.file l.c)) ≡ sets l.initial.dst 0 (back_of l.o l.file (left_of l.file l.initial.c)))
+
+abbrev pub decreases-loop-o : goal.decreases-loop-o
+decreases-loop-o l = length (left_of l.file l.c)

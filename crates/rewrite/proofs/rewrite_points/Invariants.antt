@@ -1,0 +1,20 @@
+use Prim.Native.Nat.{◌+◌, ◌-◌, ◌*◌}
+use mathlib.Core.Path.{◌≡◌, refl, ap, ◌∙◌}
+use native.Mathlib.Omega.{arith}
+use borrow.Author.Rules.{rules}
+use lib.ListN.{length, drop, length-take, length-drop}
+use lib.Seq.{sets}
+use Rattle.lent.specs.Laws.{whole, less_one}
+use Rattle.format.specs.declared.FormatLen.TheVariants as len
+use Rattle.rewrite.specs.Back.{points_back}
+use Rattle.rewrite.specs.Laws.{part_same}
+use Rattle.rewrite.proofs.Turn.{points_turn}
+use Rattle.rewrite.proofs.rewrite_points.Given as goal
+
+-- The invariant is over what is left: laid from here on, it makes of the destination what is promised.
+abbrev pub invariant-loop-left : goal.invariant-loop-left
+invariant-loop-left l =
+    (l.at + l.left * l.record_length ≡ length l.src) × (length l.dst ≡ length l.initial.dst) × (sets l.dst l.at (points_back l.format l.record_length l.left (drop l.at l.src)) ≡ sets l.initial.dst 0 (points_back l.format l.record_length l.count l.src))
+
+abbrev pub decreases-loop-left : goal.decreases-loop-left
+decreases-loop-left l = l.left

@@ -1,0 +1,17 @@
+use Prim.Native.Nat.{ℕ, ◌+◌, ◌-◌}
+use mathlib.Core.Path.{◌≡◌, refl, ap, sym, ◌∙◌}
+use mathlib.Core.Bool.{Bool, ◌&&◌}
+use native.Mathlib.Omega.{arith}
+use borrow.Author.Rules.{rules}
+use borrow.Author.Tests.{not-true, not-false}
+use lib.ListN.{length, drop}
+use Rattle.sheet.specs.Sheet.{all_fit}
+use Rattle.sheet.specs.Laws.{all_fit_step, all_fit_end}
+use Rattle.sheet.proofs.all_fit.Given as goal
+
+-- The invariant is over what is left: whether the numbers from here on fit is whether all do.
+abbrev pub invariant-loop-i : goal.invariant-loop-i
+invariant-loop-i l = all_fit (drop l.i l.a) (drop l.i l.b) ≡ all_fit l.a l.b
+
+abbrev pub decreases-loop-i : goal.decreases-loop-i
+decreases-loop-i l = length l.a - l.i

@@ -1,0 +1,13 @@
+use mathlib.Core.Path.{ap, sym, ◌∙◌}
+use borrow.Author.Rules.{rules}
+use Rattle.sheet_count.specs.declared.Bounds.TheVariants.{Are}
+use Rattle.sheet.specs.Sheet.{both_bounds}
+use Rattle.sheet.proofs.both_bounds.Goals as goal
+
+pub returns-in_default-b : goal.returns-in_default-b
+returns-in_default-b c =
+    sym (λ i. both_bounds (c.in-Are.is i) (c.in_default-b.is i))
+
+pub returns : goal.returns
+returns c =
+    ap Are c.both_extents.ensures ∙ sym (λ i. both_bounds (c.in-Are.is i) (c.in-Are-b.is i))

@@ -1,0 +1,7 @@
+use mathlib.Core.Path.{ap, ◌∙◌}
+use borrow.Author.Rules.{rules}
+use lib.Seq.{sets}
+use Rattle.store.proofs.set_u16.Goals as goal
+
+pub returns : goal.returns
+returns c = c.set_bytes.ensures ∙ ap (sets _ _) c.u16_bytes.ensures
