@@ -6,7 +6,6 @@ use Rattle.std.proofs.Math.Bool.{true, false}
 use Rattle.refusal.specs.declared.Refusal.{Refusal}
 use Rattle.refusal.specs.declared.Refusal.TheVariants.{Short, NoRoom}
 use Rattle.refusal.specs.Table.{number_of, wanted_of}
-use Rattle.format.specs.declared.Format.{Format}
 use Rattle.format.specs.declared.FormatLen.{FormatLen}
 use Rattle.format.specs.Length as format
 use Rattle.strict.specs.First.{FirstField, first_named, at_return_number, at-number-of-returns, at-class, at-channel, at-overlap, at_nir, at-angle}
@@ -14,14 +13,12 @@ use Rattle.point.specs.declared.Point.{Point}
 use Rattle.pairs.specs.declared.Pair.{Pair}
 use Rattle.pairs.specs.declared.Pair.TheVariants as pair
 use Rattle.pairs.specs.declared.Plan.{Plan}
-use Rattle.pairs.specs.declared.Planned.{Planned}
-use Rattle.pairs.specs.declared.Planned.TheVariants as planned
 use Rattle.pairs.specs.Pairs.{old_pair, new_pair, lengths_of, planned_by}
 use Rattle.judge.specs.declared.Judged.{Judged}
 use Rattle.judge.specs.declared.Judged.TheVariants as judged
 use Rattle.judge.specs.declared.Verdict.{Verdict}
 use Rattle.judge.specs.declared.Verdict.TheVariants as verdict
-use Rattle.judge.specs.Judge.{judge_run, records_of, judged_of, verdict_on, verdict_by, old_verdict, new_verdict}
+use Rattle.judge.specs.Judge.{records_of, judged_of, verdict_on, verdict_by, old_verdict, new_verdict}
 use Rattle.convert.specs.declared.Converted.{Converted}
 use Rattle.convert.specs.declared.Converted.TheVariants as converted
 use Rattle.convert.specs.Run.{images_of, done_of, to_old_of, to_new_of}

@@ -1,10 +1,10 @@
 -- Laws of every table: pieces joined and cut again, bytes cut and joined again, and pieces stored each at its place.
-use Rattle.std.specs.Prelude.{ℕ, ◌+◌, ◌≤◌, ◌≡◌, refl, List, [], ◌∷◌, ◌++◌, length, take, drop}
+use Rattle.std.specs.Prelude.{ℕ, ◌+◌, ◌≤◌, ◌≡◌, refl, List, [], ◌∷◌, ◌++◌, length, drop}
 use Rattle.std.proofs.Common.{sym, ap, ◌∙◌, append_assoc, arith, length-append, take-add, drop-drop, take_at, drop_at}
 use Rattle.std.proofs.lemmas.List.Edits.{sets}
 use Rattle.std.proofs.Math.Seq.{length-sets}
 use Rattle.lent.specs.Laws.{sets_append}
-use Rattle.fields.specs.Table.{part, total, Follow, starts, joined, All, none, ◌&◌, Stored, done, store}
+use Rattle.fields.specs.Table.{part, total, Follow, joined, All, none, ◌&◌, Stored, done, store}
 
 module _ {F : Type 0} where
   pub every : {P : F → Type 0} → ((f : F) → P f) → (fs : List F) → All P fs

@@ -7,7 +7,6 @@ use Rattle.refusal.specs.declared.Refusal.TheVariants.{EvlrStart}
 use Rattle.header.specs.Layout.{VersionMinor}
 use Rattle.header.specs.Header.{number}
 use Rattle.header.specs.Judged.{read_of}
-use Rattle.outline.specs.declared.Outline.{Outline}
 use Rattle.outline.specs.Outline.{evlr_start, evlr_count, outline_with, outline_of}
 use Rattle.rules.specs.declared.Checked.TheVariants.{Accepted, Refused}
 use Rattle.extents.specs.Extents.{start_refusal, records_of}

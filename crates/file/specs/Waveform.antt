@@ -1,8 +1,7 @@
 -- Which files have their waveform packets as a record after the points, by their bytes, and what the outline of these and of the others is.
-use Rattle.std.specs.Prelude.{ℕ, ◌/◌, ◌%◌, ◌≡◌, refl, Bool, true, false, ◌⊎◌, List}
-use Rattle.std.proofs.Common.{ap, sym, ◌∙◌, ⊎_elim, arith}
-use Rattle.header.specs.declared.HeaderAnswer.{HeaderAnswer}
-use Rattle.header.specs.declared.HeaderAnswer.TheVariants.{Whole, Refused}
+use Rattle.std.specs.Prelude.{ℕ, ◌/◌, ◌%◌, ◌≡◌, refl, Bool, true, false, List}
+use Rattle.std.proofs.Common.{ap, sym, ◌∙◌, ⊎_elim}
+use Rattle.header.specs.declared.HeaderAnswer.TheVariants.{Whole}
 use Rattle.header.specs.Layout.{GlobalEncoding, VersionMinor, StartOfWaveformDataPacketRecord}
 use Rattle.header.specs.Header.{number}
 use Rattle.header.specs.Judged.{judged, read_of}

@@ -1,7 +1,7 @@
 -- The findings of a file, in file order: document 02, No. 12, "list in file order: nonzero legacy counts in formats 6 to 10 [1]; legacy count not
 -- zero and unlike the large one [2]; counts by return unlike the records [3]; a return number of zero or above the number of returns [4]; text
 -- fields with bytes after their first zero that aren't zero [5]", "findings at the same place follow the order of this list".
-use Rattle.std.specs.Prelude.{ℕ, zero, suc, ◌+◌, ◌*◌, Bool, List, [], ◌∷◌, ◌++◌, leb, take, drop}
+use Rattle.std.specs.Prelude.{ℕ, suc, ◌+◌, ◌*◌, Bool, List, [], ◌∷◌, ◌++◌, leb, take, drop}
 use Rattle.cursor.specs.declared.Kind.{Kind}
 use Rattle.cursor.specs.declared.Kind.TheVariants.{Header, Vlr, Gap, Points, Evlr, Waveform}
 use Rattle.cursor.specs.declared.Part.{Part}

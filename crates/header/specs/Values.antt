@@ -6,7 +6,7 @@ use Rattle.le.specs.Laws.{length-bytes, num-lt, num_past, bytes-num, num-bytes}
 use Rattle.le.specs.Part.{num-part, num-first}
 use Rattle.le.specs.Real.{f64_of, f64_bits_of, f64_kept}
 use Rattle.fields.specs.Table.{part, joined}
-use Rattle.header.specs.Kinds.{Kind, Number, Text, Real, Numbers, width_of, Value, nums, value_at, bytes_of, Held, Fits}
+use Rattle.header.specs.Kinds.{Kind, Number, Text, Real, Numbers, width_of, Value, nums, value_at, bytes_of, Fits}
 
 -- numbers of w bytes, n of them, as they are read
 length-nums : (w n at : ℕ) (b : List ℕ) → length (nums w n at b) ≡ n

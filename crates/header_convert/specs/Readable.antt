@@ -8,7 +8,7 @@ use Rattle.std.proofs.Math.Seq.{length-take-le}
 use Rattle.fields.specs.Table.{All, none, ◌&◌}
 use Rattle.header.specs.declared.Header.{Header}
 use Rattle.header.specs.Kinds.{Numbers, Fits}
-use Rattle.header.specs.Layout.{Field, kind, fields14, size}
+use Rattle.header.specs.Layout.{Field, kind, fields14}
 use Rattle.header.specs.Header.{points_of}
 use Rattle.header.specs.Answers.{padded_grown, padded_shrunk}
 use Rattle.header.specs.Minor.{no_start, no_pair}

@@ -1,5 +1,5 @@
 -- Whatever the reader answers is readable: a header that bytes hold.
-use Rattle.std.specs.Prelude.{ℕ, ◌+◌, ◌-◌, ◌^◌, ◌≤◌, ◌<◌, ◌≡◌, Bool, cond, List, [], ◌∷◌, take, drop}
+use Rattle.std.specs.Prelude.{ℕ, ◌+◌, ◌-◌, ◌^◌, ◌≤◌, ◌<◌, ◌≡◌, Bool, cond, List, [], take, drop}
 use Rattle.std.proofs.Math.Path.{refl, ap, subst}
 use Rattle.std.proofs.Common.{sym, ◌∙◌, ⊎_elim, add-sub_of_le, arith, length-drop, length-take-le}
 use Rattle.std.proofs.Math.Bool.{true, false}
@@ -17,7 +17,7 @@ use Rattle.header.specs.Judged.{padded_to, judged, read_of, padding_of}
 use Rattle.header.specs.Laws.{accepted, within, size-least, short_12, short_13}
 use Rattle.header.specs.Answers.{Block, read_whole, padding-whole, number-block, block-of}
 use Rattle.header.specs.Values.{value-fits, numbers_fit, nums_past}
-use Rattle.header_write.specs.Bytes.{start_back, evlr_back, value_of}
+use Rattle.header_write.specs.Bytes.{evlr_back, value_of}
 use Rattle.header_write.specs.Back.{start_kept, pair_back, same_12}
 use Rattle.header_write.specs.Readable.{Readable}
 

@@ -15,7 +15,7 @@ use Rattle.fields.specs.Table.{All, none, ◌&◌}
 use Rattle.fields.specs.Laws.{Wide, mapped, zipped, split, length-joined, parts-joined}
 use Rattle.header.specs.declared.Header.{Header}
 use Rattle.header.specs.declared.HeaderAnswer.TheVariants.{Whole}
-use Rattle.header.specs.Layout.{Field, FileSignature, VersionMajor, VersionMinor, HeaderSize, StartOfWaveformDataPacketRecord, StartOfFirstEvlr, NumberOfEvlrs, NumberOfPointRecords, NumberOfPointsByReturn, place, kind, width, fields12, fields13, fields14, fields_of, size, large}
+use Rattle.header.specs.Layout.{Field, FileSignature, VersionMajor, VersionMinor, HeaderSize, StartOfWaveformDataPacketRecord, StartOfFirstEvlr, NumberOfEvlrs, place, kind, width, fields12, fields13, fields14, fields_of, size, large}
 use Rattle.header.specs.Header.{part, number, value, start_of, evlr_of, nans_of, large_read, header_of, lasf}
 use Rattle.header.specs.Judged.{padded_to, judged, read_of, padding_of}
 use Rattle.header.specs.Window.{part-take}

@@ -1,5 +1,5 @@
 -- What `places_for` and `Layout::for_format` answer are the table's places.
-use Rattle.std.specs.Prelude.{ℕ, ◌≡◌, refl}
+use Rattle.std.specs.Prelude.{◌≡◌, refl}
 use Rattle.format.specs.declared.Format.{Format}
 use Rattle.format.specs.declared.Field.TheVariants.{UserData, ScanAngle, PointSourceId, GpsTime, Color, Nir, Waveform, ExtraBytes}
 use Rattle.format.specs.Fields.{place_of, record_bytes}

@@ -1,5 +1,5 @@
 -- Why a file is refused: document 02's refusals in their order, and that there are no others.
-use Rattle.std.specs.Prelude.{ℕ, ◌+◌, ◌-◌, ◌^◌, ◌<◌, ◌≡◌, Bool, true, false, cond, ◌⊎◌, List, ltb, leb, length}
+use Rattle.std.specs.Prelude.{ℕ, ◌+◌, ◌^◌, ◌<◌, ◌≡◌, Bool, true, false, cond, ◌⊎◌, List, ltb, leb, length}
 use Rattle.std.proofs.Math.Path.{refl, ap}
 use Rattle.std.proofs.Common.{sym, subst, ◌∙◌, arith, lt-ltb, le-leb, ltb-false, leb-false}
 use Rattle.le.specs.Le as le

@@ -24,7 +24,6 @@ use Rattle.judge.specs.declared.Verdict.TheVariants as verdict
 use Rattle.convert.specs.Run.{images_of}
 use Rattle.migrate.specs.Migrate.{other_of, point_bytes, run_verdict, front_of, new_file, new_length}
 use Rattle.migrate.specs.Steps.{Goer, Fronted}
-use Rattle.migrate.specs.Moved.{moved}
 use Rattle.migrate.specs.Laws.{front_long}
 use Rattle.migrate.specs.Front.{other-readable, fronted}
 use Rattle.migrate.specs.Done.{needed, images_long}

@@ -1,5 +1,5 @@
 -- What the definitions say, by each answer that is met on the way.
-use Rattle.std.specs.Prelude.{ℕ, ◌+◌, ◌*◌, ◌-◌, ◌≤◌, ◌<◌, ◌≡◌, refl, Bool, List, ◌++◌, length, take, drop}
+use Rattle.std.specs.Prelude.{ℕ, ◌*◌, ◌-◌, ◌≤◌, ◌<◌, ◌≡◌, refl, Bool, List, ◌++◌, length, take, drop}
 use Rattle.std.proofs.Common.{sym, arith, le-ltb, lt-ltb}
 use Rattle.std.proofs.Math.Path.{ap}
 use Rattle.refusal.specs.declared.Refusal.{Refusal}

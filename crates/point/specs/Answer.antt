@@ -1,6 +1,6 @@
 -- What a read answers, and the extra bytes with it: one split of `read_of` and `extra_of`, from which the rest follows.
 use Rattle.std.specs.Prelude.{ℕ, ◌≤◌, ◌<◌, ◌≡◌, refl, Bool, cond, length, drop}
-use Rattle.std.proofs.Common.{sym, ◌∙◌, arith, ltb-true, ltb-false, le-ltb, length-drop, length-take-le}
+use Rattle.std.proofs.Common.{◌∙◌, arith, ltb-true, ltb-false, le-ltb, length-drop, length-take-le}
 use Rattle.std.proofs.Math.Path.{ap}
 use Rattle.std.proofs.Math.Bool.{true, false}
 use mathlib.Core.List.{List, []}

@@ -15,7 +15,6 @@ use Rattle.flags.specs.declared.Flags as flags
 use Rattle.flags.specs.declared.Flags.TheVariants.{TwoByte, ThreeByte}
 use Rattle.angle.specs.declared.ScanAngle as angle
 use Rattle.angle.specs.declared.ScanAngle.TheVariants.{Rank, Scaled}
-use Rattle.point.specs.declared.Color as color
 use Rattle.point.specs.declared.Waveform as waveform
 use Rattle.point.specs.declared.MaybeTime as time
 use Rattle.point.specs.declared.MaybeTime.TheVariants as some-time

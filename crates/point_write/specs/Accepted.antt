@@ -14,7 +14,7 @@ use Rattle.lent.specs.declared.Wrote.{Wrote}
 use Rattle.lent.specs.declared.Wrote.TheVariants.{Bytes, Refused}
 use Rattle.format.specs.declared.Format.{Format}
 use Rattle.format.specs.declared.FormatLen.{FormatLen}
-use Rattle.format.specs.Fields.{record_bytes, len_of}
+use Rattle.format.specs.Fields.{record_bytes}
 use Rattle.format.specs.Length as len
 use Rattle.format.specs.Length.{Told, told}
 use Rattle.point.specs.declared.Point.{Point}

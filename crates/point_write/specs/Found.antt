@@ -1,8 +1,7 @@
 -- Every point that is read is one that its format can hold.
-use Rattle.std.specs.Prelude.{ℕ, ◌+◌, ◌≤◌, ◌<◌, ◌≡◌, refl, Bool, cond, List, length}
+use Rattle.std.specs.Prelude.{ℕ, ◌+◌, ◌≤◌, ◌≡◌, refl, Bool, List, length}
 use Rattle.std.proofs.Math.Path.{ap}
 use Rattle.std.proofs.Math.Bool.{true, false}
-use Rattle.std.proofs.Common.{arith}
 use mir.Syntax.{w8, w16, w32}
 use mir.ValLaws.{to_z-Fits}
 use Rattle.le.specs.Le.{num, Bytes}

@@ -11,7 +11,6 @@ use Rattle.format.specs.declared.Format.{Format}
 use Rattle.format.specs.declared.FormatLen.TheVariants as len
 use Rattle.format.specs.Fields.{len_of, record_bytes}
 use Rattle.format.specs.Laws.{len_is}
-use Rattle.point.specs.declared.PointRead.TheVariants.{Is}
 use Rattle.point.specs.Read.{point_of, extra_of}
 use Rattle.point.specs.Answer.{answered, whole_read}
 use Rattle.point_write.specs.Write.{record_of}

@@ -9,7 +9,7 @@ use Rattle.walker.specs.declared.Start.{Start}
 use Rattle.walker.specs.declared.Start.TheVariants as start
 use Rattle.walker.specs.declared.Place.{Place}
 use Rattle.walker.specs.declared.Walked.{Walked}
-use Rattle.walker.specs.declared.Walked.TheVariants.{Point, Refused}
+use Rattle.walker.specs.declared.Walked.TheVariants.{Point}
 use Rattle.walker.specs.declared.Walker.{Walker}
 use Rattle.walker.specs.Walk.{has_next, record_of, refusal_by, refusal_of, after, took_of, next_by, next_of}
 use Rattle.walker.specs.Laws.{next_says}

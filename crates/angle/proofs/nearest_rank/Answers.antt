@@ -4,10 +4,10 @@ use native.Mathlib.Omega.{arith}
 use lib.IntN.{ℤ, nat_abs, ◌+ℤ◌}
 use lib.Signed.{nat_abs-le}
 use mir.Syntax.{w16, w32}
-use mir.Val.{SFits, to_z, of_z}
+use mir.Val.{to_z, of_z}
 use mir.ValLaws.{to_z-of_z}
 use Rattle.angle.specs.Angle.{nearest, nearest_rank}
-use Rattle.angle.specs.Sign.{sided, by_test, own_size, times, plus, sided-fits, rank_size}
+use Rattle.angle.specs.Sign.{sided, by_test, own_size, times, plus, rank_size}
 use Rattle.angle.proofs.Wide.{wide, Product, product, Quotient, quotient}
 use Rattle.angle.proofs.nearest_rank.Goals as goal
 use Rattle.angle.proofs.nearest_rank.Goals.{Joined-n-lt0, then-n-lt0, else-n-lt0}
@@ -27,8 +27,8 @@ module _ (c : Joined-n-lt0) where
   half =
       let h = c.ranges.n in
       elim c.if-n-lt0.branch [
-        then-n-lt0 w ↦ w.half-is ∙ sym (by_test n 500 ∙ rw (rw to_z-of_z at w.if-n-lt0.true))
-      | else-n-lt0 w ↦ w.half-is ∙ sym (by_test n 500 ∙ rw (rw to_z-of_z at w.if-n-lt0.false))
+        | then-n-lt0 w ↦ w.half-is ∙ sym (by_test n 500 ∙ rw (rw to_z-of_z at w.if-n-lt0.true))
+        | else-n-lt0 w ↦ w.half-is ∙ sym (by_test n 500 ∙ rw (rw to_z-of_z at w.if-n-lt0.false))
       ]
 
   abbrev sum : ℤ

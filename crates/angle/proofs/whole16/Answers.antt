@@ -1,4 +1,3 @@
-use borrow.Author.Rules.{rules}
 use borrow.Author.Tests.{lt-leb, le-leb}
 use Prim.Native.Nat.{ℕ, ◌<◌, ◌^◌}
 use mathlib.Core.Path.{◌≡◌, sym, ap, subst, ◌∙◌}
@@ -16,6 +15,7 @@ use Rattle.angle.proofs.whole16.Goals.{Else-e-gt141, Else-x, Then-e-gt141}
 -- Each return is what the laws of Whole say of x's pattern.
 abbrev x : Else-x → Float
 x c = c.before.args.x
+
 -- what owning an f32 tells: the format holds it
 is-f32 : (c : Else-x) → T (fits binary32 (x c))
 is-f32 c = subst T (sym c.well_formed.0.1) tt

@@ -23,6 +23,7 @@ module _ (m : After-first) where
   by : {x : FirstVlr} → m.first.result ≡ x → begun_by m.args.o s x ≡ begun_in m.args.o s
   unfolding begun_in
   by is = ap (begun_by m.args.o s) (sym (told is))
+
 -- it lies in the file
 within : (k : In-At) → k.in-At.start + k.in-At.length ≤ length (s (goal.at.In-At k).After-first)
 within k = found_within k.args.o lasf_spec 4 (s (goal.at.In-At k).After-first) (told (goal.at.In-At k).After-first k.in-At.is)

@@ -42,6 +42,7 @@ module _ (n : After-named_in) where
   by : {x : Named} → n.named_in.result ≡ x → searched_by start.args.c s x ≡ searched_in start.args.name.now start.args.c s
   unfolding searched_in
   by is = ap (searched_by start.args.c s) (sym (told is))
+
 -- and that it is one of them
 module _ (k : In-At) where
   abbrev n : After-named_in

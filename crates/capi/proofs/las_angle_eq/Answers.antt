@@ -1,4 +1,3 @@
-use borrow.Author.Rules.{rules}
 use Rattle.capi.proofs.las_angle_eq.Goals as goal
 
 pub returns : goal.returns

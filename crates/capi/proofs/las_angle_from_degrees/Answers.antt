@@ -1,6 +1,5 @@
 use mathlib.Core.Path.{ap, ◌∙◌}
 use Rattle.words.specs.Words.{angle_word}
-use borrow.Author.Rules.{rules}
 use Rattle.capi.proofs.las_angle_from_degrees.Goals as goal
 
 pub returns : goal.returns

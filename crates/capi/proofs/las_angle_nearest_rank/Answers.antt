@@ -2,7 +2,6 @@ use mathlib.Core.Path.{ap, ◌∙◌}
 use mir.Syntax.{w16}
 use Rattle.le.proofs.Twos.{kept}
 use Rattle.angle.specs.Angle.{nearest_rank}
-use borrow.Author.Rules.{rules}
 use Rattle.capi.proofs.las_angle_nearest_rank.Goals as goal
 
 pub returns : goal.returns

@@ -2,7 +2,6 @@ use mathlib.Core.Path.{ap, ◌∙◌}
 use mir.Syntax.{w8}
 use mir.Val.{of_z}
 use Rattle.le.proofs.Twos.{kept}
-use borrow.Author.Rules.{rules}
 use Rattle.capi.proofs.las_angle_rank.Goals as goal
 
 pub returns : goal.returns

@@ -4,7 +4,6 @@ use lib.IntN.{ℤ}
 use mir.Syntax.{w16}
 use mir.Val.{of_z}
 use Rattle.le.proofs.Twos.{kept}
-use borrow.Author.Rules.{rules}
 use Rattle.capi.proofs.las_angle_scaled.Goals as goal
 
 pub returns : goal.returns

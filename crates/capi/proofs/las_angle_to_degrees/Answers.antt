@@ -1,6 +1,5 @@
 use mathlib.Core.Path.{ap, ◌∙◌}
 use Rattle.angle.specs.Angle.{to_degrees}
-use borrow.Author.Rules.{rules}
 use Rattle.capi.proofs.las_angle_to_degrees.Goals as goal
 
 pub returns : goal.returns

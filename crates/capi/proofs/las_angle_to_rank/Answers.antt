@@ -2,7 +2,6 @@ use mathlib.Core.Path.{ap, ◌∙◌}
 use mir.Syntax.{w8}
 use Rattle.le.proofs.Twos.{kept}
 use Rattle.angle.specs.Angle.{to_rank}
-use borrow.Author.Rules.{rules}
 use Rattle.capi.proofs.las_angle_to_rank.Goals as goal
 
 pub returns : goal.returns

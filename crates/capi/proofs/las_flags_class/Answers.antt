@@ -1,5 +1,4 @@
 use mathlib.Core.Path.{ap, ◌∙◌}
-use borrow.Author.Rules.{rules}
 use Rattle.flags.specs.Readings.{class_of}
 use Rattle.capi.proofs.las_flags_class.Goals as goal
 

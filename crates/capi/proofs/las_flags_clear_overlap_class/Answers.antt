@@ -1,7 +1,6 @@
 use mathlib.Core.Path.{ap, ◌∙◌}
 use Rattle.words.specs.Words.{flags_word}
 use Rattle.flags.specs.Bytes.{cleared_of}
-use borrow.Author.Rules.{rules}
 use Rattle.capi.proofs.las_flags_clear_overlap_class.Goals as goal
 
 pub returns : goal.returns

@@ -1,4 +1,3 @@
-use borrow.Author.Rules.{rules}
 use Rattle.capi.proofs.las_flags_eq.Goals as goal
 
 pub returns : goal.returns

@@ -1,5 +1,4 @@
 use mathlib.Core.Path.{ap, ◌∙◌}
-use borrow.Author.Rules.{rules}
 use Rattle.flags.specs.Readings.{edge_of}
 use Rattle.capi.proofs.las_flags_is_edge_of_flight_line.Goals as goal
 

@@ -1,5 +1,4 @@
 use mathlib.Core.Path.{ap, ◌∙◌}
-use borrow.Author.Rules.{rules}
 use Rattle.flags.specs.Readings.{number_of_returns_of}
 use Rattle.capi.proofs.las_flags_number_of_returns.Goals as goal
 

@@ -1,5 +1,4 @@
 use mathlib.Core.Path.{sym, ap, ◌∙◌}
-use borrow.Author.Rules.{rules}
 use Rattle.flags.specs.Readings.{direction_of}
 use Rattle.words.specs.Words.{direction_word}
 use Rattle.capi.proofs.las_flags_scan_direction.Goals as goal

@@ -1,7 +1,6 @@
 use mathlib.Core.Path.{ap, ◌∙◌}
 use Rattle.words.specs.Words.{three_word}
 use Rattle.flags.specs.Bytes.{three_bytes_of}
-use borrow.Author.Rules.{rules}
 use Rattle.capi.proofs.las_flags_to_three_bytes.Goals as goal
 
 pub returns : goal.returns

@@ -1,5 +1,4 @@
 use mathlib.Core.Path.{sym, ap, ◌∙◌}
-use borrow.Author.Rules.{rules}
 use Rattle.flags.specs.Bytes.{two_bytes_of}
 use Rattle.capi.specs.Rows.{two_row}
 use Rattle.capi.proofs.las_flags_to_two_bytes.Goals as goal

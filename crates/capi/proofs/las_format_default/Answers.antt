@@ -1,6 +1,5 @@
 use mathlib.Core.Path.{ap, ◌∙◌}
 use Rattle.words.specs.Words.{format_word}
-use borrow.Author.Rules.{rules}
 use Rattle.capi.proofs.las_format_default.Goals as goal
 
 pub returns : goal.returns

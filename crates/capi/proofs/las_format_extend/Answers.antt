@@ -1,7 +1,6 @@
 use mathlib.Core.Path.{ap, ◌∙◌}
 use Rattle.words.specs.Words.{format_word}
 use Rattle.format.specs.Format.{extended_of}
-use borrow.Author.Rules.{rules}
 use Rattle.capi.proofs.las_format_extend.Goals as goal
 
 pub returns : goal.returns

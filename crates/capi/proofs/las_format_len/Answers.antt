@@ -1,5 +1,4 @@
 use mathlib.Core.Path.{sym, ap, ◌∙◌}
-use borrow.Author.Rules.{rules}
 use Rattle.format.specs.Fields.{len_of}
 use Rattle.capi.specs.Rows.{len_row}
 use Rattle.capi.proofs.las_format_len.Goals as goal

@@ -1,5 +1,4 @@
 use mathlib.Core.Path.{sym, ap, ◌∙◌}
-use borrow.Author.Rules.{rules}
 use Rattle.format.specs.Codes.{code_of}
 use Rattle.capi.specs.Rows.{code_row}
 use Rattle.capi.proofs.las_format_to_u8.Goals as goal

@@ -16,6 +16,7 @@ use Rattle.capi_descriptor.proofs.deprecated_of.Goals.{Start}
 -- where a deprecated field stands among them: they are 24 bytes apart in a descriptor, and 16 here
 abbrev among : Field → ℕ
 among f = (place f - 48) / 24 * 16
+
 -- the lengths of the arrays
 texts : (s : Start) → Texts s.args.v
 texts s = search rules

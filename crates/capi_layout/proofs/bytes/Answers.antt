@@ -1,4 +1,3 @@
-use borrow.Author.Rules.{rules}
 use Rattle.capi_layout.proofs.bytes.Goals as goal
 
 pub returns-then-has : goal.returns-then-has

@@ -1,5 +1,4 @@
 use mathlib.Core.Path.{ap, ◌∙◌}
-use borrow.Author.Rules.{rules}
 use Rattle.capi_layout.specs.Numbers.{layout_numbers}
 use Rattle.capi_layout.proofs.las_layout.Goals as goal
 

@@ -1,7 +1,6 @@
 use mathlib.Core.List.{[], ◌∷◌}
 use Rattle.layout.specs.Placed.{placed, laid}
 use Rattle.capi_layout.specs.Numbers.{layout_numbers}
-use borrow.Author.Rules.{rules}
 use Rattle.capi_layout.proofs.numbers_of.Goals as goal
 
 -- A name for each call's place, then place and bytes of the thirteen fields in order.

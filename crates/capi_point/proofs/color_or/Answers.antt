@@ -1,6 +1,5 @@
 use mathlib.Core.Path.{sym, ap}
 use Rattle.capi_point.specs.Numbers.{color_or}
-use borrow.Author.Rules.{rules}
 use Rattle.capi_point.proofs.color_or.Goals as goal
 
 pub returns-in-None : goal.returns-in-None

@@ -1,4 +1,4 @@
-use mathlib.Core.Path.{◌≡◌, ap, ◌∙◌}
+use mathlib.Core.Path.{ap, ◌∙◌}
 use lib.ListN.{length}
 use Rattle.format.specs.declared.Format.{Format}
 use Rattle.layout.specs.Layout.{places_of}
@@ -7,7 +7,6 @@ use Rattle.point.specs.Read.{extra_of}
 use Rattle.words.specs.Rows.{part_row}
 use Rattle.words.specs.Words.{format_of_word}
 use Rattle.capi_point.specs.Numbers.{extra_part}
-use borrow.Author.Rules.{rules}
 use Rattle.capi_point.proofs.las_point_extra.Goals as goal
 
 pub returns : goal.returns

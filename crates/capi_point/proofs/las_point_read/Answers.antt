@@ -4,7 +4,6 @@ use mathlib.Core.Path.{sym, ap, ◌∙◌}
 use Rattle.format.specs.declared.Format.{Format}
 use Rattle.point.specs.Read.{read_of}
 use Rattle.capi_point.specs.Numbers.{read_row}
-use borrow.Author.Rules.{rules}
 use Rattle.capi_point.proofs.las_point_read.Goals as goal
 
 pub returns-in-Is : goal.returns-in-Is

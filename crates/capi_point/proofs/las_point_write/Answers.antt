@@ -1,7 +1,6 @@
 use mathlib.Core.Path.{sym, ap, ◌∙◌}
 use Rattle.point_write.specs.Write.{written_of}
 use Rattle.words.specs.Rows.{wrote_row, written_row}
-use borrow.Author.Rules.{rules}
 use Rattle.capi_point.proofs.las_point_write.Goals as goal
 
 pub returns-in-Bytes : goal.returns-in-Bytes

@@ -1,7 +1,6 @@
 use mathlib.Core.Path.{◌∙◌}
 use Rattle.refusal.proofs.Tests.{tests}
 use Rattle.capi_point.specs.Numbers.{waveform_from, maybe_waveform_from}
-use borrow.Author.Rules.{rules}
 use Rattle.capi_point.proofs.maybe_waveform_from.Goals as goal
 
 pub returns-then-nth-eq0 : goal.returns-then-nth-eq0

@@ -4,7 +4,6 @@ use mir.Val.{to_z}
 use Rattle.words.specs.Words.{flags_of, angle_of}
 use Rattle.le.proofs.Twos.{kept}
 use Rattle.capi_point.specs.Numbers.{point_from}
-use borrow.Author.Rules.{rules}
 use Rattle.capi_point.proofs.point_from.Goals as goal
 
 pub returns : goal.returns

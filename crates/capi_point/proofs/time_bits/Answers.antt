@@ -1,6 +1,5 @@
 use mathlib.Core.Path.{sym, ap, ◌∙◌}
 use Rattle.capi_point.specs.Numbers.{time_bits_of}
-use borrow.Author.Rules.{rules}
 use Rattle.capi_point.proofs.time_bits.Goals as goal
 
 pub returns-in-Some : goal.returns-in-Some

@@ -1,6 +1,5 @@
 use Rattle.refusal.proofs.Tests.{tests}
 use Rattle.capi_point.specs.Numbers.{time_from}
-use borrow.Author.Rules.{rules}
 use Rattle.capi_point.proofs.time_from.Goals as goal
 
 pub returns-then-nth-eq0 : goal.returns-then-nth-eq0

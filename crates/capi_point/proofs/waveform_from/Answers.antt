@@ -1,5 +1,4 @@
 use Rattle.capi_point.specs.Numbers.{waveform_from}
-use borrow.Author.Rules.{rules}
 use Rattle.capi_point.proofs.waveform_from.Goals as goal
 
 pub returns : goal.returns

@@ -18,6 +18,7 @@ returns-then-overlong c =
 -- a length that fits
 fits : (c : Else-overlong) → let a = c.args in overlong a.extended (get_or a.numbers.now 2 0) ≡ false
 fits c = sym c.overlong.ensures ∙ c.if-overlong.false
+
 -- what is written then
 written : (c : After-write_to) → let a = c.args in written_row (c.write_to.result, c.write_to.new.dst) ≡ write_row a.extended a.numbers.now a.user_id.now a.description.now a.«data».now a.dst.now
 unfolding write_row

@@ -25,6 +25,7 @@ took c =
     let a = e.args in
     rw (eq-eqb _ _ e.if-place-ne0.false)
     (ap (λ (x : Took). took_row a.place.now a.numbers.now x.answer x.next) (sym (c.take_at-took.ensures ∙ ap (took_of a.file.now) c.place_from.ensures)))
+
 -- and leaves the walk an accepted one
 still-accepted : (c : After-take_at-took) → c.take_at-took.result.next.start ≡ start.Accepted
 unfolding place_from

@@ -1,6 +1,5 @@
 use mathlib.Core.Path.{ap, sym, subst, ◌∙◌}
 use mathlib.Core.Bool.{true}
-use borrow.Author.Rules.{rules}
 use Rattle.judge.specs.Laws.{Ready, new_ready}
 use Rattle.convert.specs.Run.{done_of, to_new_of}
 use Rattle.convert.proofs.to_new.Goals as goal

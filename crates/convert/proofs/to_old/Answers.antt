@@ -1,6 +1,5 @@
 use mathlib.Core.Path.{ap, sym, subst, ◌∙◌}
 use mathlib.Core.Bool.{false}
-use borrow.Author.Rules.{rules}
 use Rattle.judge.specs.Laws.{Ready, old_ready}
 use Rattle.convert.specs.Run.{done_of, to_old_of}
 use Rattle.convert.proofs.to_old.Goals as goal

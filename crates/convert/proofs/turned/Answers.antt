@@ -1,6 +1,5 @@
 use mathlib.Core.Path.{ap, sym, ◌∙◌}
 use mathlib.Core.Bool.{Bool}
-use borrow.Author.Rules.{rules}
 use mir.Syntax.{w16}
 use Rattle.le.proofs.Twos.{kept}
 use Rattle.strict.specs.Upgrade.{upgraded_to, to_its_own}

@@ -1,16 +1,10 @@
-use Prim.Native.Nat.{◌+◌, ◌-◌, ◌*◌, ◌≤◌}
-use mathlib.Core.Path.{◌≡◌, refl, ◌∙◌}
-use native.Mathlib.Omega.{arith}
-use borrow.Author.Rules.{rules}
-use lib.ListN.{length, drop, length-take, length-drop}
+use Prim.Native.Nat.{◌+◌, ◌*◌, ◌≤◌}
+use mathlib.Core.Path.{◌≡◌}
+use lib.ListN.{length, drop}
 use lib.Seq.{sets}
-use Rattle.lent.specs.Laws.{whole, less_one}
-use Rattle.lent.specs.Records.{record_length_lem}
 use Rattle.angle.specs.Table.{scaled_table}
 use Rattle.convert.specs.Run.{images_of}
 use Rattle.convert.specs.Asked.{TakesRun}
-use Rattle.convert.specs.Laws.{images-length}
-use Rattle.convert.proofs.Turn.{takes_step, write_turn}
 use Rattle.convert.proofs.write.Given as goal
 
 -- The invariant is over what is left: laid from here on, it makes of the destination what is promised.

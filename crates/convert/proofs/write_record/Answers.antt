@@ -2,7 +2,6 @@ use Prim.Native.Nat.{ℕ}
 use mathlib.Core.Path.{◌≡◌, refl, sym, ◌∙◌}
 use mathlib.Core.Bool.{Bool, true, false}
 use native.Mathlib.Omega.{arith}
-use borrow.Author.Rules.{rules}
 use Rattle.angle.specs.declared.ScanAngle.{ScanAngle}
 use Rattle.angle.specs.declared.ScanAngle.TheVariants.{Rank, Scaled}
 use Rattle.angle.specs.Angle.{to_scaled}
@@ -20,6 +19,7 @@ use Rattle.convert.proofs.write_record.Goals.{After-read_from}
 read_is : (x : After-read_from) → x.read_from.result ≡ Is (point_of x.args.plan.source x.args.src.now)
 read_is x =
     x.read_from.ensures ∙ read_told x.args.plan.source x.args.src.now x.args.plan.source_length x.requires.0.from (omega (arith, x.requires.1))
+
 -- an angle that a record holds is in the table: its rank has eight bits
 in_table : (extended : Bool) (a : ScanAngle) → AngleHeld extended a → to_scaled_in scaled_table a ≡ to_scaled a
 in_table true (Scaled n) h = refl

@@ -1,4 +1,3 @@
-use borrow.Author.Rules.{rules}
 use native.Mathlib.Omega.{arith}
 use Rattle.cursor.specs.Cursor.{plan_of, first_of}
 use Rattle.cursor.proofs.first.Goals as goal

@@ -1,5 +1,4 @@
 use mathlib.Core.Path.{◌≡◌, ap, sym, ◌∙◌}
-use borrow.Author.Rules.{rules}
 use native.Mathlib.Omega.{arith}
 use Rattle.header.specs.declared.HeaderRead.{HeaderRead}
 use Rattle.outline.specs.declared.Outline.{Outline}
@@ -14,6 +13,7 @@ use Rattle.cursor.proofs.start.Goals.{After-of}
 -- the outline that was made is the file's
 outline : (c : After-of) → c.of.result ≡ outline_in c.args.file.now
 outline c = c.of.ensures ∙ ap (λ (r : HeaderRead). outline_of r.header) c.read_from-read.ensures
+
 -- the points of an accepted file end in it
 pub first-requires : goal.first-requires
 first-requires c =

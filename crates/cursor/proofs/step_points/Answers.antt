@@ -1,4 +1,3 @@
-use borrow.Author.Rules.{rules}
 use Rattle.cursor.proofs.step_points.Goals as goal
 
 pub returns : goal.returns

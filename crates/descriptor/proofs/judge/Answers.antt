@@ -1,6 +1,5 @@
 use mathlib.Core.Path.{sym}
 use native.Mathlib.Omega.{arith}
-use borrow.Author.Rules.{rules}
 use Rattle.descriptor.specs.Laws.{too_few, no_type, all_there}
 use Rattle.descriptor.proofs.judge.Goals as goal
 

@@ -1,6 +1,5 @@
 use mathlib.Core.Path.{sym}
 use native.Mathlib.Omega.{arith}
-use borrow.Author.Rules.{rules}
 use Rattle.descriptor.specs.Sizes.{type_zero, type_other, above_ten}
 use Rattle.descriptor.proofs.size.Goals as goal
 

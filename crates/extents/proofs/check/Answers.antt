@@ -1,5 +1,4 @@
 use mathlib.Core.Path.{sym, ◌∙◌}
-use borrow.Author.Rules.{rules}
 use lib.ListN.{length}
 use Rattle.rules.specs.declared.Checked.TheVariants.{Accepted}
 use Rattle.rules.specs.Rules.{header_rules}

@@ -1,4 +1,3 @@
-use borrow.Author.Rules.{rules}
 use Rattle.rules.specs.declared.Checked.TheVariants.{Accepted}
 use Rattle.extents.specs.Extents.{part_rules, vlr_rules, records_of}
 use Rattle.extents.proofs.Then.{then_refused, then_accepted}

@@ -1,6 +1,5 @@
 use mathlib.Core.Path.{◌≡◌, sym, ◌∙◌}
 use native.Mathlib.Omega.{arith}
-use borrow.Author.Rules.{rules}
 use Rattle.format.specs.Fields.{record_bytes}
 use Rattle.format.specs.Length.{len_is, len_over}
 use Rattle.file.proofs.beyond.Goals as goal

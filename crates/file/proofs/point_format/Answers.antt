@@ -1,6 +1,5 @@
 use Prim.Native.Nat.{ℕ}
 use mathlib.Core.Path.{sym, ap, ◌∙◌}
-use borrow.Author.Rules.{rules}
 use Rattle.format.specs.Format.{with_extra}
 use Rattle.file.specs.Points.{filled, point_format}
 use Rattle.file.proofs.point_format.Goals as goal

@@ -1,4 +1,3 @@
-use borrow.Author.Rules.{rules}
 use borrow.Author.Tests.{le-ltb, lt-ltb}
 use Rattle.finding.specs.Told.{plus}
 use Rattle.finding.proofs.plus.Goals as goal

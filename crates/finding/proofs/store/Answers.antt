@@ -1,7 +1,6 @@
 use Prim.Native.Nat.{suc, ◌+◌, ◌*◌}
 use mathlib.Core.Path.{◌≡◌, sym}
 use native.Mathlib.Omega.{arith}
-use borrow.Author.Rules.{rules}
 use lib.ListN.{length-set}
 use Rattle.finding.specs.Told.{stored_there, stored-nowhere}
 use Rattle.finding.proofs.store.Goals as goal

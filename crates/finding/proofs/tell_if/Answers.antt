@@ -1,4 +1,3 @@
-use borrow.Author.Rules.{rules}
 use Rattle.finding.specs.Rules.{when}
 use Rattle.finding.specs.Told.{told}
 use Rattle.finding.proofs.tell_if.Goals as goal

@@ -1,11 +1,9 @@
-use Prim.Native.Nat.{ℕ, ◌-◌}
+use Prim.Native.Nat.{ℕ}
 use mathlib.Core.Path.{ap, ◌∙◌}
 use mathlib.Core.Bool.{true}
-use native.Mathlib.Omega.{arith}
-use borrow.Author.Rules.{rules}
 use lib.ListN.{get_or}
 use Rattle.finding.specs.Rules.{unlike, large_at, larges}
-use Rattle.finding.specs.Told.{Telling, telling, told-when, told-next, told_last}
+use Rattle.finding.specs.Told.{telling, told-when, told-next, told_last}
 use Rattle.finding.proofs.tell_larges.Goals as goal
 
 pub loop-i-init : goal.loop-i-init

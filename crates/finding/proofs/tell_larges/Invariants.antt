@@ -1,11 +1,6 @@
-use Prim.Native.Nat.{ℕ, ◌-◌}
-use mathlib.Core.Path.{ap, ◌∙◌}
-use mathlib.Core.Bool.{true}
-use native.Mathlib.Omega.{arith}
-use borrow.Author.Rules.{rules}
-use lib.ListN.{get_or}
-use Rattle.finding.specs.Rules.{unlike, large_at, larges}
-use Rattle.finding.specs.Told.{Telling, telling, told-when, told-next, told_last}
+use Prim.Native.Nat.{◌-◌}
+use Rattle.finding.specs.Rules.{large_at}
+use Rattle.finding.specs.Told.{Telling}
 use Rattle.finding.proofs.tell_larges.Given as goal
 
 abbrev pub invariant-loop-i : goal.invariant-loop-i

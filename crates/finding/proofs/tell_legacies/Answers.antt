@@ -1,7 +1,5 @@
-use Prim.Native.Nat.{◌-◌}
-use native.Mathlib.Omega.{arith}
-use Rattle.finding.specs.Rules.{legacy_at, legacies}
-use Rattle.finding.specs.Told.{Telling, telling, told-next, told_last}
+use Rattle.finding.specs.Rules.{legacies}
+use Rattle.finding.specs.Told.{telling, told-next, told_last}
 use Rattle.finding.proofs.tell_legacies.Goals as goal
 
 pub loop-i-init : goal.loop-i-init

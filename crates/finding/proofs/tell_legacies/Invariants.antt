@@ -1,7 +1,6 @@
 use Prim.Native.Nat.{◌-◌}
-use native.Mathlib.Omega.{arith}
-use Rattle.finding.specs.Rules.{legacy_at, legacies}
-use Rattle.finding.specs.Told.{Telling, telling, told-next, told_last}
+use Rattle.finding.specs.Rules.{legacy_at}
+use Rattle.finding.specs.Told.{Telling}
 use Rattle.finding.proofs.tell_legacies.Given as goal
 
 abbrev pub invariant-loop-i : goal.invariant-loop-i

@@ -1,7 +1,6 @@
 use Prim.Native.Nat.{ℕ, ◌+◌, ◌*◌}
 use mathlib.Core.Path.{ap, ◌∙◌}
 use mathlib.Core.Bool.{not}
-use borrow.Author.Rules.{rules}
 use lib.ListN.{get_or}
 use Rattle.le.specs.Le.{num}
 use Rattle.finding.specs.Rules.{spot, unlike, when, legacy_at}

@@ -1,6 +1,5 @@
 use Prim.Native.Nat.{ℕ}
 use mathlib.Core.Path.{◌≡◌, ap, ◌∙◌}
-use borrow.Author.Rules.{rules}
 use Rattle.le.specs.Le.{num}
 use Rattle.finding.specs.Rules.{spot, unlike, when, legacy_first}
 use Rattle.finding.specs.Told.{told-when, both}

@@ -1,5 +1,4 @@
 use mathlib.Core.Path.{◌∙◌}
-use borrow.Author.Rules.{rules}
 use Rattle.finding.specs.Rules.{text_at}
 use Rattle.finding.specs.Told.{told-when}
 use Rattle.finding.proofs.tell_text.Goals as goal

@@ -1,6 +1,5 @@
 use mathlib.Core.Path.{◌≡◌, sym, ◌∙◌}
 use native.Mathlib.Omega.{arith}
-use borrow.Author.Rules.{rules}
 use Rattle.cursor.specs.declared.Started.TheVariants as started
 use Rattle.cursor.specs.Cursor.{started_of}
 use Rattle.findings.specs.Answered.{refused_is, begun, no_room, room}

@@ -1,13 +1,11 @@
-use Prim.Native.Nat.{◌+◌, ◌-◌, ◌*◌, ◌≤◌}
-use mathlib.Core.Path.{◌≡◌, ap, ◌∙◌}
+use Prim.Native.Nat.{◌+◌, ◌≤◌}
+use mathlib.Core.Path.{ap, ◌∙◌}
 use mathlib.Core.List.{List}
 use native.Mathlib.Nat.{zero-mul, add-mul}
 use native.Mathlib.Omega.{arith}
-use borrow.Author.Rules.{rules}
 use lib.ListN.{length}
 use Rattle.finding.specs.declared.Finding.{Finding}
-use Rattle.finding.specs.Told.{told, Telling, telling, told-next, told_last}
-use Rattle.findings.specs.Found.{point_at}
+use Rattle.finding.specs.Told.{told, telling, told-next, told_last}
 use Rattle.findings.specs.Laws.{point_told, ends}
 use Rattle.findings.proofs.tell_odd.Goals as goal
 use Rattle.findings.proofs.tell_odd.Goals.{In-loop-i}

@@ -1,14 +1,7 @@
-use Prim.Native.Nat.{◌+◌, ◌-◌, ◌*◌, ◌≤◌}
-use mathlib.Core.Path.{◌≡◌, ap, ◌∙◌}
-use mathlib.Core.List.{List}
-use native.Mathlib.Nat.{zero-mul, add-mul}
-use native.Mathlib.Omega.{arith}
-use borrow.Author.Rules.{rules}
-use lib.ListN.{length}
-use Rattle.finding.specs.declared.Finding.{Finding}
-use Rattle.finding.specs.Told.{told, Telling, telling, told-next, told_last}
+use Prim.Native.Nat.{◌+◌, ◌-◌, ◌*◌}
+use mathlib.Core.Path.{◌≡◌}
+use Rattle.finding.specs.Told.{Telling}
 use Rattle.findings.specs.Found.{point_at}
-use Rattle.findings.specs.Laws.{point_told, ends}
 use Rattle.findings.proofs.tell_odd.Given as goal
 
 abbrev pub invariant-loop-i : goal.invariant-loop-i

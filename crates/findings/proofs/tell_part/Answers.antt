@@ -1,5 +1,4 @@
 use mathlib.Core.Path.{sym}
-use borrow.Author.Rules.{rules}
 use Rattle.finding.specs.Rules.{counters}
 use Rattle.finding.specs.Told.{told_none, both}
 use Rattle.findings.specs.Found.{texts_at, found_in}

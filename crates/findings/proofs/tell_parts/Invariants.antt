@@ -1,13 +1,6 @@
-use Prim.Native.Nat.{◌+◌}
-use mathlib.Core.Path.{◌≡◌}
-use mathlib.Core.Bool.{true}
-use native.Mathlib.Omega.{arith}
-use borrow.Author.Rules.{rules}
-use borrow.Author.Tests.{not-true, not-false}
 use lib.ListN.{length}
 use Rattle.cursor.specs.Cursor.{left_of}
-use Rattle.cursor.specs.Count.{few_left}
-use Rattle.findings.specs.Laws.{Driving, driving, more, starts, driven, ended}
+use Rattle.findings.specs.Laws.{Driving}
 use Rattle.findings.proofs.tell_parts.Given as goal
 
 abbrev pub invariant-loop-survey : goal.invariant-loop-survey

@@ -1,5 +1,4 @@
 use Prim.Native.Nat.{◌+◌}
-use borrow.Author.Rules.{rules}
 use Rattle.finding.specs.Rules.{text_at}
 use Rattle.finding.specs.Told.{both}
 use Rattle.findings.specs.Found.{texts_at}

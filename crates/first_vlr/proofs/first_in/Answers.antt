@@ -56,6 +56,7 @@ module _ (k : In-Bytes) where
   ends =
       let w = accepted false (drop p.loop-left.at (rest m)) whole in
       (omega arith, omega (arith, length-drop p.loop-left.at (rest m), p.loop-left.invariant.0))
+
 -- and by whether it has the ids
 module _ (i : After-is_of) where
   abbrev k : In-Bytes

@@ -1,9 +1,7 @@
 use Prim.Native.Nat.{◌≤◌, ◌-◌}
-use mathlib.Core.Path.{◌≡◌, refl, sym, ◌∙◌}
-use borrow.Author.Rules.{rules}
+use mathlib.Core.Path.{◌≡◌}
 use lib.ListN.{length, drop}
 use Rattle.format.specs.Codes.{is_in}
-use Rattle.format.proofs.Among.{found, passed, ended}
 use Rattle.format.proofs.contains.Given as goal
 
 -- The invariant: what is still to be searched decides.

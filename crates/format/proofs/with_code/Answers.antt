@@ -1,6 +1,5 @@
 use lib.Dec.{leb}
 use Rattle.format.specs.Codes.{coded}
-use borrow.Author.Rules.{rules}
 use Rattle.format.proofs.with_code.Goals as goal
 
 -- Each search through a list told its attribute.

@@ -1,6 +1,5 @@
 use mathlib.Core.Path.{sym, ap, ◌∙◌}
 use borrow.Author.Tests.{le-ltb}
-use borrow.Author.Rules.{rules}
 use Rattle.refusal.proofs.Tests.{tests}
 use Rattle.header.specs.Judged.{version_of, standard_of, sized, versioned}
 use Rattle.header.specs.declared.StandardSize.{StandardSize}

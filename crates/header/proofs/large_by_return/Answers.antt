@@ -1,5 +1,4 @@
 use mathlib.Core.List.{[], ◌∷◌}
-use borrow.Author.Rules.{rules}
 use Rattle.header.specs.Kinds.{nums}
 use Rattle.header.proofs.large_by_return.Goals as goal
 

@@ -1,6 +1,5 @@
 use mathlib.Core.Path.{sym, ap, ◌∙◌}
 use native.Mathlib.Omega.{arith}
-use borrow.Author.Rules.{rules}
 use Rattle.header.specs.Judged.{padding_by, padding_of}
 use Rattle.header.specs.Laws.{within}
 use Rattle.header.specs.declared.HeaderAnswer.{HeaderAnswer}

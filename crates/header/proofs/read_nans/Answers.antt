@@ -1,4 +1,3 @@
-use borrow.Author.Rules.{rules}
 use Rattle.header.specs.Header.{nans_of}
 use Rattle.header.proofs.read_nans.Goals as goal
 

@@ -2,8 +2,7 @@ use Prim.Native.Nat.{◌+◌, ◌^◌}
 use mathlib.Core.Path.{◌≡◌, sym, ◌∙◌}
 use mathlib.Core.Bool.{true, false}
 use native.Mathlib.Omega.{arith}
-use borrow.Author.Rules.{rules}
-use borrow.Author.Tests.{not-true, not-false, lt-ltb, le-ltb}
+use borrow.Author.Tests.{lt-ltb, le-ltb}
 use Rattle.header_convert.specs.Turned.{is_of, beside, new_goes}
 use Rattle.header_convert.proofs.ask_new.Goals as goal
 use Rattle.header_convert.proofs.ask_new.Goals.{Else-is_beside, Else-not-is_of}

@@ -1,8 +1,7 @@
 use mathlib.Core.Path.{◌≡◌, sym, ◌∙◌}
 use mathlib.Core.Bool.{true, false}
 use native.Mathlib.Omega.{arith}
-use borrow.Author.Rules.{rules}
-use borrow.Author.Tests.{not-true, not-false, lt-leb, le-leb}
+use borrow.Author.Tests.{lt-leb, le-leb}
 use Rattle.header_convert.specs.Turned.{is_of, beside, counts_fit, old_goes}
 use Rattle.header_convert.proofs.ask_old.Goals as goal
 use Rattle.header_convert.proofs.ask_old.Goals.{Else-is_beside, Else-not-counts_fit, Else-not-is_of}

@@ -1,7 +1,6 @@
 use mathlib.Core.Path.{◌∙◌}
 use mathlib.Core.Bool.{true}
 use Prim.Native.Nat.{◌+◌}
-use borrow.Author.Rules.{rules}
 use lib.ListN.{replicate}
 use Rattle.header_convert.specs.Turned.{changed_of, new_places, new_header}
 use Rattle.header_convert.proofs.new_header.Goals as goal

@@ -1,7 +1,6 @@
 use mathlib.Core.Path.{◌≡◌, ◌∙◌}
 use mathlib.Core.Bool.{true, false}
 use Prim.Native.Nat.{◌-◌}
-use borrow.Author.Rules.{rules}
 use Rattle.header.specs.Header.{no_large}
 use Rattle.header_convert.specs.Turned.{old_by_return, every, fits32, changed_of, old_places, old_header}
 use Rattle.header_convert.proofs.old_header.Goals as goal

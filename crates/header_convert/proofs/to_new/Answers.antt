@@ -1,5 +1,4 @@
 use mathlib.Core.Path.{◌≡◌, ap, sym, ◌∙◌}
-use borrow.Author.Rules.{rules}
 use Rattle.header_convert.specs.declared.Goes.{Goes}
 use Rattle.header_convert.specs.declared.Goes.TheVariants.{Yes}
 use Rattle.header_convert.specs.Turned.{new_header, new_goes, turned_by, new_turned}

@@ -1,5 +1,4 @@
 use mathlib.Core.Path.{ap, sym}
-use borrow.Author.Rules.{rules}
 use Rattle.header_write.specs.Bytes.{evlr_back}
 use Rattle.header_write.proofs.evlr_back.Goals as goal
 

@@ -1,8 +1,7 @@
-use Prim.Native.Nat.{◌-◌}
 use mathlib.Core.Path.{◌≡◌, refl}
 use borrow.Author.Rules.{rules}
 use lib.ListN.{length}
-use Rattle.header_write.proofs.Counts.{Left, turn, done}
+use Rattle.header_write.proofs.Counts.{turn, done}
 use Rattle.header_write.proofs.set_by_return.Goals as goal
 
 pub loop-i-preserved : goal.loop-i-preserved

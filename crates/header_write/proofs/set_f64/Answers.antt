@@ -1,6 +1,5 @@
 use Prim.Native.Nat.{ℕ}
 use mathlib.Core.Path.{ap, ◌∙◌}
-use borrow.Author.Rules.{rules}
 use lib.Seq.{sets}
 use Rattle.le.specs.Le.{bytes}
 use Rattle.header_write.proofs.set_f64.Goals as goal

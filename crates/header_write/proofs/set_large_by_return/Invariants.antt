@@ -1,8 +1,5 @@
 use Prim.Native.Nat.{◌-◌}
-use mathlib.Core.Path.{◌≡◌, refl}
-use borrow.Author.Rules.{rules}
-use lib.ListN.{length}
-use Rattle.header_write.proofs.Counts.{Left, turn, done}
+use Rattle.header_write.proofs.Counts.{Left}
 use Rattle.header_write.proofs.set_large_by_return.Given as goal
 
 abbrev pub invariant-loop-i : goal.invariant-loop-i

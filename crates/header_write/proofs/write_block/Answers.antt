@@ -1,7 +1,6 @@
 use Prim.Native.Nat.{ℕ}
 use mathlib.Core.Path.{refl, ap, ◌∙◌}
 use borrow.Author.Tests.{le-ltb, lt-ltb}
-use borrow.Author.Rules.{rules}
 use lib.Seq.{sets}
 use Rattle.header.specs.Layout.{place, width, fields12, fields13}
 use Rattle.le.specs.Le.{bytes}

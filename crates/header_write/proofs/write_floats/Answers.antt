@@ -1,5 +1,4 @@
 use mathlib.Core.Path.{refl}
-use borrow.Author.Rules.{rules}
 use Rattle.fields.specs.Table.{store, done}
 use Rattle.fields.specs.Laws.{stored-length}
 use Rattle.header_write.proofs.write_floats.Goals as goal

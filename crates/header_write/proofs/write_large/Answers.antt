@@ -2,7 +2,6 @@ use Prim.Native.Nat.{ℕ, ◌*◌}
 use mathlib.Core.Path.{refl, ap, sym, ◌∙◌}
 use lib.Seq.{sets}
 use Rattle.le.specs.Le.{bytes}
-use borrow.Author.Rules.{rules}
 use lib.ListN.{length}
 use Rattle.header.specs.declared.LargeFile.{LargeFile}
 use Rattle.header.specs.declared.Evlr.{Evlr}

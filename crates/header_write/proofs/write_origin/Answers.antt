@@ -5,7 +5,6 @@ use lib.ListN.{length}
 use lib.Seq.{sets}
 use Rattle.le.specs.Laws.{one_byte}
 use Rattle.fields.specs.Table.{store, done}
-use Rattle.fields.specs.Laws.{stored-length}
 use Rattle.header_write.proofs.write_origin.Goals as goal
 use Rattle.header_write.proofs.write_origin.Goals.{Start}
 

@@ -3,7 +3,6 @@ use mathlib.Core.List.{List}
 use mathlib.Core.Path.{◌≡◌, ap, sym, ◌∙◌}
 use native.Mathlib.Omega.{arith}
 use borrow.Author.Tests.{le-leb}
-use borrow.Author.Rules.{rules}
 use lib.ListN.{length}
 use Rattle.lent.specs.declared.Wrote.TheVariants.{Bytes}
 use Rattle.lent.specs.Laws.{then_tail}

@@ -1,5 +1,4 @@
 use mathlib.Core.Path.{ap, sym, ◌∙◌}
-use borrow.Author.Rules.{rules}
 use Rattle.header.specs.declared.StandardSize.{StandardSize}
 use Rattle.header_write.specs.Wrote.{wrote_by, wrote_of}
 use Rattle.header_write.proofs.write_to.Goals as goal

@@ -1,6 +1,5 @@
 use mathlib.Core.Path.{ap, sym, subst, ◌∙◌}
 use mathlib.Core.Bool.{true}
-use borrow.Author.Rules.{rules}
 use Rattle.pairs.specs.Sound.{PlannedSound, new_planned}
 use Rattle.judge.specs.Judge.{verdict_by, new_verdict}
 use Rattle.judge.proofs.ask_new.Goals as goal

@@ -1,6 +1,5 @@
 use mathlib.Core.Path.{ap, sym, subst, ◌∙◌}
 use mathlib.Core.Bool.{false}
-use borrow.Author.Rules.{rules}
 use Rattle.pairs.specs.Sound.{PlannedSound, old_planned}
 use Rattle.judge.specs.Judge.{verdict_by, old_verdict}
 use Rattle.judge.proofs.ask_old.Goals as goal

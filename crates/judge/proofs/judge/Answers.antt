@@ -1,5 +1,4 @@
 use Prim.Native.Nat.{◌*◌, ◌≤◌, ◌<◌}
-use borrow.Author.Rules.{rules}
 use borrow.Author.Tests.{le-ltb, lt-ltb}
 use lib.ListN.{length}
 use Rattle.refusal.specs.Laws.{div-le, div-lt}
@@ -12,6 +11,7 @@ use Rattle.judge.proofs.judge.Goals.{Else-src-plan, Start}
 -- records have bytes
 source-bytes : (s : Start) → 0 < s.args.plan.source_length
 source-bytes s = some_bytes s.args.plan.source _ s.requires.from
+
 -- the source is long enough
 there : (c : Else-src-plan) → c.args.count * c.args.plan.source_length ≤ length c.args.src.now
 there c = let s = c in div-le _ s.args.count _ (source-bytes (goal.at.Else-src-plan s).Start) c.if-src-plan.false

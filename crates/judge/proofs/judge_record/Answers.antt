@@ -1,5 +1,4 @@
 use mathlib.Core.Path.{◌≡◌, ap, sym, ◌∙◌}
-use borrow.Author.Rules.{rules}
 use Rattle.point.specs.Read.{read_of}
 use Rattle.judge.specs.Judge.{fit_read}
 use Rattle.judge.specs.Laws.{fit_marks, marks_enough}

@@ -1,14 +1,13 @@
-use Prim.Native.Nat.{◌+◌, ◌-◌, ◌*◌, ◌≤◌}
+use Prim.Native.Nat.{◌+◌, ◌-◌, ◌*◌}
 use mathlib.Core.Path.{◌≡◌, ap, ◌∙◌}
 use native.Mathlib.Omega.{arith}
-use borrow.Author.Rules.{rules}
-use lib.ListN.{length, take, drop}
+use lib.ListN.{take, drop}
 use Rattle.lent.specs.Laws.{less_one}
 use Rattle.lent.specs.Records.{record_length_lem}
 use Rattle.point.specs.Read.{point_of}
 use Rattle.point.specs.Answer.{read_told}
 use Rattle.strict.specs.Fit.{fit_of}
-use Rattle.judge.specs.Judge.{fit_read, judge_run}
+use Rattle.judge.specs.Judge.{fit_read}
 use Rattle.judge.proofs.Turn.{judge_turn, none_left, first-number}
 use Rattle.judge.proofs.judge_records.Goals as goal
 use Rattle.judge.proofs.judge_records.Goals.{After-judge_record, At-loop-left, In-loop-left, Start}

@@ -1,15 +1,7 @@
 use Prim.Native.Nat.{◌+◌, ◌-◌, ◌*◌, ◌≤◌}
-use mathlib.Core.Path.{◌≡◌, ap, ◌∙◌}
-use native.Mathlib.Omega.{arith}
-use borrow.Author.Rules.{rules}
-use lib.ListN.{length, take, drop}
-use Rattle.lent.specs.Laws.{less_one}
-use Rattle.lent.specs.Records.{record_length_lem}
-use Rattle.point.specs.Read.{point_of}
-use Rattle.point.specs.Answer.{read_told}
-use Rattle.strict.specs.Fit.{fit_of}
-use Rattle.judge.specs.Judge.{fit_read, judge_run}
-use Rattle.judge.proofs.Turn.{judge_turn, none_left, first-number}
+use mathlib.Core.Path.{◌≡◌}
+use lib.ListN.{length, drop}
+use Rattle.judge.specs.Judge.{judge_run}
 use Rattle.judge.proofs.judge_records.Given as goal
 
 -- The invariant is over what is left: what is said of the records from here on is what is to be said of the run.

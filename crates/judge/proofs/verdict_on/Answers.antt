@@ -1,8 +1,6 @@
 use mathlib.Core.Path.{◌≡◌, ap, sym, subst, ◌∙◌}
 use native.Mathlib.Omega.{arith}
-use borrow.Author.Rules.{rules}
 use lib.ListN.{length}
-use Rattle.pairs.specs.declared.Plan.{Plan}
 use Rattle.pairs.specs.Sound.{Sound, PlannedSound, bytes-told}
 use Rattle.judge.specs.Judge.{verdict_on, verdict_by}
 use Rattle.judge.specs.Laws.{goes}

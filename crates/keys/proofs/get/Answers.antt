@@ -10,6 +10,7 @@ use Rattle.keys.proofs.get.Goals.{After-find, After-open}
 by-keys : (x : After-open) {o : Opened} → x.«open».result ≡ o → (let a = x.args in got_by o a.wanted a.file.now ≡ got_of a.allowance a.wanted a.file.now)
 unfolding got_of
 by-keys x is = ap (λ (o : Opened). got_by o x.args.wanted x.args.file.now) (sym is ∙ x.«open».ensures)
+
 -- and what is found
 by-found : (x : After-find) {k : KeyAt} → x.find.result ≡ k → (let a = x.args in value_by k ≡ got_of a.allowance a.wanted a.file.now)
 by-found x is =

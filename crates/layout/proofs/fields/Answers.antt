@@ -1,4 +1,3 @@
-use borrow.Author.Rules.{rules}
 use Rattle.layout.specs.Layout.{slots_of}
 use Rattle.layout.proofs.fields.Goals as goal
 

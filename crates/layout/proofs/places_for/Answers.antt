@@ -1,4 +1,3 @@
-use borrow.Author.Rules.{rules}
 use Rattle.format.specs.Laws.{further, after_source}
 use Rattle.layout.specs.Layout.{places_of}
 use Rattle.layout.proofs.places_for.Goals as goal

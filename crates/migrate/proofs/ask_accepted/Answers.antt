@@ -1,7 +1,5 @@
-use Prim.Native.Nat.{◌-◌}
 use mathlib.Core.Path.{◌≡◌, ap, sym, subst, ◌∙◌}
 use native.Mathlib.Omega.{arith}
-use borrow.Author.Rules.{rules}
 use Rattle.outline.specs.declared.Outline.{Outline}
 use Rattle.outline.specs.Outline.{outline_of}
 use Rattle.extents.specs.Extents.{points_end}
@@ -30,6 +28,7 @@ ask_points-requires c = subst (λ (o : Outline). Inside o (begun c).args.file.no
 -- what the points are told
 told : (x : After-ask_points) → x.ask_points.result ≡ run_verdict (begun (goal.at.After-ask_points x).After-of-o).args.up (outline_of (begun (goal.at.After-ask_points x).After-of-o).args.header) (begun (goal.at.After-ask_points x).After-of-o).args.file.now
 told x = let a = (begun (goal.at.After-ask_points x).After-of-o).args in x.ask_points.ensures ∙ ap (λ (o : Outline). run_verdict a.up o a.file.now) x.of-o.ensures
+
 -- where those of the new file end
 other-end : (c : After-of) → points_end c.of.result ≡ points_end (outline_of (other_of (begun (goal.at.After-of c).After-of-o).args.up (begun (goal.at.After-of c).After-of-o).args.header))
 other-end c = ap points_end (c.of.ensures ∙ ap outline_of c.other.ensures)

@@ -1,5 +1,4 @@
 use mathlib.Core.Path.{◌∙◌}
-use borrow.Author.Rules.{rules}
 use Rattle.migrate.specs.Told.{run-asked}
 use Rattle.migrate.proofs.ask_points.Goals as goal
 

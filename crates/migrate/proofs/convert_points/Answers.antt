@@ -1,5 +1,4 @@
 use mathlib.Core.Path.{◌∙◌}
-use borrow.Author.Rules.{rules}
 use Rattle.migrate.specs.Told.{run_converted}
 use Rattle.migrate.proofs.convert_points.Goals as goal
 

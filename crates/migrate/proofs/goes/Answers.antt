@@ -1,6 +1,5 @@
 use mathlib.Core.Path.{ap, sym, ◌∙◌}
 use mathlib.Core.Bool.{Bool}
-use borrow.Author.Rules.{rules}
 use Rattle.migrate.specs.Migrate.{goes_of}
 use Rattle.migrate.proofs.goes.Goals as goal
 

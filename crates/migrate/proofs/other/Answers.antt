@@ -1,6 +1,5 @@
 use mathlib.Core.Path.{◌≡◌, ap, sym, subst, ◌∙◌}
 use mathlib.Core.Bool.{Bool}
-use borrow.Author.Rules.{rules}
 use Rattle.header_convert.specs.declared.Goes.TheVariants.{Yes}
 use Rattle.header_convert.specs.Told.{new-turned, old-turned}
 use Rattle.migrate.specs.Migrate.{goes_of, other_of}

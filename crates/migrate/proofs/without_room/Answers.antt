@@ -1,5 +1,4 @@
 use mathlib.Core.Path.{ap, sym}
-use borrow.Author.Rules.{rules}
 use Rattle.migrate.specs.Steps.{roomless}
 use Rattle.migrate.proofs.without_room.Goals as goal
 

@@ -1,5 +1,4 @@
 use mathlib.Core.Path.{ap, sym, ◌∙◌}
-use borrow.Author.Rules.{rules}
 use Rattle.migrate.specs.Migrate.{done_by}
 use Rattle.migrate.specs.Told.{by_header}
 use Rattle.migrate.proofs.write_accepted.Goals as goal

@@ -1,4 +1,3 @@
-use borrow.Author.Rules.{rules}
 use Rattle.migrate.specs.Laws.{front-written}
 use Rattle.migrate.proofs.write_front.Goals as goal
 

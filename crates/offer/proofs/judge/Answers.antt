@@ -1,5 +1,4 @@
 use mathlib.Core.Path.{ap, sym, subst, ◌∙◌}
-use native.Mathlib.Omega.{arith}
 use borrow.Author.Rules.{rules}
 use Rattle.header.specs.declared.HeaderRead.{HeaderRead}
 use Rattle.header.specs.Judged.{read_of}

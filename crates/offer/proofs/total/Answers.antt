@@ -1,4 +1,3 @@
-use borrow.Author.Rules.{rules}
 use Rattle.offer.specs.Steps.{total_of}
 use Rattle.offer.proofs.total.Goals as goal
 
@@ -10,5 +9,4 @@ returns c = λ i. record {
   third = c.sum-3.ensures i;
   fourth = c.sum-4.ensures i;
   fifth = c.sum-5.ensures i;
-
 }

@@ -1,4 +1,3 @@
-use borrow.Author.Rules.{rules}
 use Rattle.outline.proofs.number_of.Goals as goal
 
 pub returns-then-waveform : goal.returns-then-waveform

@@ -1,5 +1,4 @@
 use mathlib.Core.Path.{sym, ◌∙◌}
-use borrow.Author.Rules.{rules}
 use Rattle.pairs.proofs.lengths.Goals as goal
 
 pub returns-in-Is-len : goal.returns-in-Is-len

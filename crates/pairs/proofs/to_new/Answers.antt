@@ -1,5 +1,4 @@
 use mathlib.Core.Path.{ap, ◌∙◌}
-use borrow.Author.Rules.{rules}
 use Rattle.pairs.specs.Pairs.{planned_by}
 use Rattle.pairs.proofs.to_new.Goals as goal
 

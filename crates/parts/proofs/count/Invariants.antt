@@ -1,10 +1,7 @@
 use Prim.Native.Nat.{◌+◌}
 use mathlib.Core.Path.{◌≡◌}
-use native.Mathlib.Omega.{arith}
-use borrow.Author.Rules.{rules}
 use lib.ListN.{length}
 use Rattle.cursor.specs.Cursor.{left_of, told_by}
-use Rattle.cursor.specs.Count.{few_left, told-one, told_none, told-all}
 use Rattle.parts.proofs.count.Given as goal
 
 -- The invariant: those counted and those that the step and its cursor have still to tell are all.

@@ -1,5 +1,4 @@
 use mathlib.Core.Path.{ap, ◌∙◌}
-use borrow.Author.Rules.{rules}
 use borrow.Author.Tests.{le-ltb, lt-ltb}
 use Rattle.cursor.specs.declared.Cursor.{Cursor}
 use Rattle.parts.specs.Table.{nothing, filling_of}

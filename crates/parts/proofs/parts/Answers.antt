@@ -1,11 +1,10 @@
-use Rattle.std.proofs.Common.{◌≡◌, ℕ, ◌+◌, ◌-◌, ◌<◌, ◌≤◌, List, ◌∷◌, length, set, take, refl, sym, ap, subst, ◌∙◌, arith, rules, length-set}
+use Rattle.std.proofs.Common.{◌≡◌, ◌<◌, ◌≤◌, List, ◌∷◌, length, take, refl, sym, ap, subst, ◌∙◌, arith, rules, length-set}
 use Rattle.std.proofs.lemmas.List.Edits.{sets}
 use Rattle.cursor.specs.declared.Part.{Part}
 use Rattle.cursor.specs.declared.Step.{Step}
 use Rattle.cursor.specs.Cursor.{step_of, left_of}
 use Rattle.cursor.specs.Laws.{some_left}
 use Rattle.parts.specs.declared.Filling.{Filling}
-use Rattle.parts.specs.Table.{filling_of, tabled_of}
 use Rattle.parts.specs.Laws.{turn, ended, filling_fits, filling_is}
 use Rattle.parts.proofs.parts.Goals as goal
 use Rattle.parts.proofs.parts.Goals.{After-judge-filling}
@@ -38,8 +37,7 @@ loop-i-preserved c =
     let r = c.next-step.result in
     let left : left_of s l.c ≡ (step_of s l.c).part ∷ left_of s (step_of s l.c).next = some_left s l.c (omega arith) in
     let is : left_of s l.c ≡ r.part ∷ left_of s r.next = left ∙ ap (λ (t : Step). t.part ∷ left_of s t.next) (sym c.next-step.ensures) in
-    let one : length (left_of s l.c) ≡ length (r.part ∷ left_of s r.next) = ap length is in
-    (
+    let one : length (left_of s l.c) ≡ length (r.part ∷ left_of s r.next) = ap length is in (
       omega arith,
       length-set l.table l.i r.part ∙ l.invariant.1,
       omega arith,

@@ -1,7 +1,6 @@
 use mir.Syntax.{w8, w16}
 use Rattle.le.proofs.Twos.{kept}
 use Rattle.point.specs.Read.{angle_at}
-use borrow.Author.Rules.{rules}
 use Rattle.point.proofs.angle_at.Goals as goal
 
 pub returns-then-is_extended : goal.returns-then-is_extended

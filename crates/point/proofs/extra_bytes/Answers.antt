@@ -1,7 +1,6 @@
 use mathlib.Core.Path.{sym, ap, ◌∙◌}
 use Rattle.format.specs.Laws.{len_is}
 use Rattle.point.specs.Read.{extra_after, extra_of}
-use borrow.Author.Rules.{rules}
 use Rattle.point.proofs.extra_bytes.Goals as goal
 
 pub extra_sized-requires : goal.extra_sized-requires

@@ -6,7 +6,6 @@ use Rattle.format.specs.declared.Field.TheVariants.{ExtraBytes}
 use Rattle.format.specs.Fields.{place_of}
 use Rattle.format.specs.Laws.{record_end}
 use Rattle.layout.specs.Placed.{placed}
-use borrow.Author.Rules.{rules}
 use Rattle.point.proofs.extra_sized.Goals as goal
 use Rattle.point.proofs.extra_sized.Goals.{After-places_for-at}
 

@@ -1,5 +1,4 @@
 use Rattle.point.specs.Read.{flags_at}
-use borrow.Author.Rules.{rules}
 use Rattle.point.proofs.flags_at.Goals as goal
 
 pub returns-then-is_extended : goal.returns-then-is_extended

@@ -1,5 +1,4 @@
 use Rattle.point.specs.Read.{nir_at}
-use borrow.Author.Rules.{rules}
 use Rattle.point.proofs.nir_at.Goals as goal
 
 pub returns-then-has : goal.returns-then-has

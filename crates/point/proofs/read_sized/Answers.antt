@@ -1,6 +1,5 @@
 use borrow.Author.Tests.{lt-ltb, le-ltb}
 use Rattle.point.specs.Read.{sized_of}
-use borrow.Author.Rules.{rules}
 use Rattle.point.proofs.read_sized.Goals as goal
 
 pub returns-then-s-n : goal.returns-then-s-n

@@ -1,7 +1,6 @@
 use native.Mathlib.Omega.{arith}
 use Rattle.point.specs.Read.{time_at}
 use Rattle.le.specs.Part.{num-first}
-use borrow.Author.Rules.{rules}
 use Rattle.point.proofs.time_at.Goals as goal
 
 pub part_at-part-requires : goal.part_at-part-requires

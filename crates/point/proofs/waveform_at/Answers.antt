@@ -1,6 +1,5 @@
 use Rattle.point.specs.Read.{maybe_waveform_at}
 use Rattle.point.proofs.Parts.{waveform_part}
-use borrow.Author.Rules.{rules}
 use Rattle.point.proofs.waveform_at.Goals as goal
 
 pub part_at-part-requires : goal.part_at-part-requires

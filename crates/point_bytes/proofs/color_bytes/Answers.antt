@@ -1,7 +1,6 @@
 use mathlib.Core.Path.{sym, ap, ◌∙◌}
 use mathlib.Core.List.{◌++◌}
 use Rattle.point_bytes.specs.Bytes.{color_bytes}
-use borrow.Author.Rules.{rules}
 use Rattle.point_bytes.proofs.color_bytes.Goals as goal
 
 pub returns-in-Some : goal.returns-in-Some

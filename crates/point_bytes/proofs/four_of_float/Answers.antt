@@ -1,7 +1,6 @@
 use mathlib.Core.Path.{ap, ◌∙◌}
 use Rattle.le.specs.Le.{bytes}
 use Rattle.le.specs.Real.{f32_bits_is}
-use borrow.Author.Rules.{rules}
 use Rattle.point_bytes.proofs.four_of_float.Goals as goal
 
 pub returns : goal.returns

@@ -3,7 +3,6 @@ use mir.Syntax.{w32}
 use mir.Val.{of_z}
 use Rattle.le.specs.Le.{bytes}
 use Rattle.le.proofs.Twos.{kept}
-use borrow.Author.Rules.{rules}
 use Rattle.point_bytes.proofs.four_of_signed.Goals as goal
 
 pub returns : goal.returns

@@ -6,7 +6,6 @@ use mir.Val.{of_z}
 use Rattle.le.specs.Le.{bytes}
 use Rattle.le.proofs.Twos.{kept}
 use Rattle.point_bytes.specs.Bytes.{legacy_core_of}
-use borrow.Author.Rules.{rules}
 use Rattle.point_bytes.proofs.legacy_core.Goals as goal
 
 pub returns : goal.returns

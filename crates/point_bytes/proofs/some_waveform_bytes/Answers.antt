@@ -1,5 +1,4 @@
 use mathlib.Core.List.{◌∷◌, ◌++◌}
-use borrow.Author.Rules.{rules}
 use Rattle.point_bytes.proofs.some_waveform_bytes.Goals as goal
 
 pub returns : goal.returns

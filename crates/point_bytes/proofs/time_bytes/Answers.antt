@@ -1,7 +1,6 @@
 use mathlib.Core.Path.{sym, ap, ◌∙◌}
 use Rattle.le.specs.Le.{bytes}
 use Rattle.point_bytes.specs.Bytes.{time_bytes}
-use borrow.Author.Rules.{rules}
 use Rattle.point_bytes.proofs.time_bytes.Goals as goal
 
 pub returns-in-Some : goal.returns-in-Some

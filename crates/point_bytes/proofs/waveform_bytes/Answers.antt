@@ -1,6 +1,5 @@
 use mathlib.Core.Path.{sym, ap, ◌∙◌}
 use Rattle.point_bytes.specs.Bytes.{waveform_bytes}
-use borrow.Author.Rules.{rules}
 use Rattle.point_bytes.proofs.waveform_bytes.Goals as goal
 
 pub returns-in-Some : goal.returns-in-Some

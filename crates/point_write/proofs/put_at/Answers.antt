@@ -1,4 +1,3 @@
-use borrow.Author.Rules.{rules}
 use Rattle.point_write.proofs.Piece.{exact}
 use Rattle.point_write.proofs.put_at.Goals as goal
 

@@ -1,9 +1,7 @@
 use Prim.Native.Nat.{ℕ, ◌≤◌}
-use mathlib.Core.Path.{◌≡◌, refl, ap, sym, ◌∙◌}
-use mathlib.Core.Bool.{Bool, true}
+use mathlib.Core.Path.{◌≡◌, refl, ap, ◌∙◌}
 use mathlib.Core.List.{List, ◌++◌}
 use native.Mathlib.Omega.{arith}
-use borrow.Author.Rules.{rules}
 use lib.ListN.{length}
 use lib.Seq.{sets}
 use Rattle.fields.specs.Table.{Stored, done, store}
@@ -40,8 +38,8 @@ to-time c =
     let a = c.args in
     let long = time_length a.point.gps_time in
     elim c.if-format.branch [
-      then-format w ↦ there a.format a.point a.extra.now GpsTime long (at (goal.at.Joined-format c).After-places_for-at).time w.time_bytes.ensures w.if-format.true (w.dst-is ∙ w.put_at.ensures)
-    | else-format w ↦ lacking a.format a.point a.extra.now GpsTime long w.if-format.false w.dst-is
+      | then-format w ↦ there a.format a.point a.extra.now GpsTime long (at (goal.at.Joined-format c).After-places_for-at).time w.time_bytes.ensures w.if-format.true (w.dst-is ∙ w.put_at.ensures)
+      | else-format w ↦ lacking a.format a.point a.extra.now GpsTime long w.if-format.false w.dst-is
     ]
 
 to-color : (c : Joined-format-2) → Put (goal.at.Joined-format-2 c).After-places_for-at c.if-format.dst (only c.args.format.has_color Color) c.if-format-2.dst
@@ -49,8 +47,8 @@ to-color c =
     let a = c.args in
     let long = color_length a.point.color in
     elim c.if-format-2.branch [
-      then-format-2 w ↦ there a.format a.point a.extra.now Color long (at (goal.at.Joined-format-2 c).After-places_for-at).color w.color_bytes.ensures w.if-format-2.true (w.dst-is ∙ w.put_at-then-format-2.ensures)
-    | else-format-2 w ↦ lacking a.format a.point a.extra.now Color long w.if-format-2.false w.dst-is
+      | then-format-2 w ↦ there a.format a.point a.extra.now Color long (at (goal.at.Joined-format-2 c).After-places_for-at).color w.color_bytes.ensures w.if-format-2.true (w.dst-is ∙ w.put_at-then-format-2.ensures)
+      | else-format-2 w ↦ lacking a.format a.point a.extra.now Color long w.if-format-2.false w.dst-is
     ]
 
 to-nir : (c : Joined-format-3) → Put (goal.at.Joined-format-3 c).After-places_for-at c.if-format-2.dst (only c.args.format.has_nir Nir) c.if-format-3.dst
@@ -58,8 +56,8 @@ to-nir c =
     let a = c.args in
     let long = nir_length a.point.nir in
     elim c.if-format-3.branch [
-      then-format-3 w ↦ there a.format a.point a.extra.now Nir long (at (goal.at.Joined-format-3 c).After-places_for-at).nir w.nir_bytes.ensures w.if-format-3.true (w.dst-is ∙ w.put_at-then-format-3.ensures)
-    | else-format-3 w ↦ lacking a.format a.point a.extra.now Nir long w.if-format-3.false w.dst-is
+      | then-format-3 w ↦ there a.format a.point a.extra.now Nir long (at (goal.at.Joined-format-3 c).After-places_for-at).nir w.nir_bytes.ensures w.if-format-3.true (w.dst-is ∙ w.put_at-then-format-3.ensures)
+      | else-format-3 w ↦ lacking a.format a.point a.extra.now Nir long w.if-format-3.false w.dst-is
     ]
 
 to-waveform : (c : Joined-format-4) → Put (goal.at.Joined-format-4 c).After-places_for-at c.if-format-3.dst (only c.args.format.has_waveform Waveform) c.if-format-4.dst
@@ -67,8 +65,8 @@ to-waveform c =
     let a = c.args in
     let long = waveform_length a.point.waveform in
     elim c.if-format-4.branch [
-      then-format-4 w ↦ there a.format a.point a.extra.now Waveform long (at (goal.at.Joined-format-4 c).After-places_for-at).waveform w.waveform_bytes.ensures w.if-format-4.true (w.dst-is ∙ w.put_at-then-format-4.ensures)
-    | else-format-4 w ↦ lacking a.format a.point a.extra.now Waveform long w.if-format-4.false w.dst-is
+      | then-format-4 w ↦ there a.format a.point a.extra.now Waveform long (at (goal.at.Joined-format-4 c).After-places_for-at).waveform w.waveform_bytes.ensures w.if-format-4.true (w.dst-is ∙ w.put_at-then-format-4.ensures)
+      | else-format-4 w ↦ lacking a.format a.point a.extra.now Waveform long w.if-format-4.false w.dst-is
     ]
 
 -- so each has room

@@ -1,5 +1,4 @@
 use mathlib.Core.Path.{sym, ap, ◌∙◌}
-use borrow.Author.Rules.{rules}
 use Rattle.format.specs.Length.{len_is}
 use Rattle.point_write.specs.Write.{written_after, written_of}
 use Rattle.point_write.proofs.write_to.Goals as goal

@@ -3,11 +3,10 @@ use mathlib.Core.Path.{◌≡◌, refl, ap, ◌∙◌}
 use mathlib.Core.Bool.{Bool, cond}
 use native.Mathlib.Nat.{zero-add}
 use native.Mathlib.Omega.{arith}
-use borrow.Author.Rules.{rules}
 use lib.ListN.{length, get_or, get_or-replicate}
 use Rattle.lent.specs.Laws.{less_one}
 use Rattle.returns.specs.Returns.{counted_of}
-use Rattle.returns.proofs.Turn.{Counting, small, number_fits, odd_fits, turn, all-numbers, all_odd}
+use Rattle.returns.proofs.Turn.{small, number_fits, odd_fits, turn, all-numbers, all_odd}
 use Rattle.returns.proofs.count_all.Goals as goal
 use Rattle.returns.proofs.count_all.Goals.{After-mark_in-mark, In-loop-left}
 

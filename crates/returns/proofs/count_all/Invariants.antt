@@ -1,13 +1,4 @@
-use Prim.Native.Nat.{ℕ, ◌+◌, ◌≤◌, ◌<◌}
-use mathlib.Core.Path.{◌≡◌, refl, ap, ◌∙◌}
-use mathlib.Core.Bool.{Bool, cond}
-use native.Mathlib.Nat.{zero-add}
-use native.Mathlib.Omega.{arith}
-use borrow.Author.Rules.{rules}
-use lib.ListN.{length, get_or, get_or-replicate}
-use Rattle.lent.specs.Laws.{less_one}
-use Rattle.returns.specs.Returns.{counted_of}
-use Rattle.returns.proofs.Turn.{Counting, small, number_fits, odd_fits, turn, all-numbers, all_odd}
+use Rattle.returns.proofs.Turn.{Counting}
 use Rattle.returns.proofs.count_all.Given as goal
 
 -- The invariant is over what is left (proofs/Turn.antt).

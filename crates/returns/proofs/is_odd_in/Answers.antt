@@ -1,5 +1,4 @@
 use mathlib.Core.Path.{ap, ◌∙◌}
-use borrow.Author.Rules.{rules}
 use Rattle.returns.specs.Returns.{is_odd, odd_in}
 use Rattle.returns.proofs.is_odd_in.Goals as goal
 

@@ -1,4 +1,3 @@
-use borrow.Author.Rules.{rules}
 use Rattle.returns.specs.Returns.{mark_of}
 use Rattle.returns.proofs.mark_in.Goals as goal
 

@@ -1,7 +1,6 @@
 use mathlib.Core.Path.{ap, ◌∙◌}
 use mathlib.Core.List.{List}
 use Prim.Native.Nat.{ℕ}
-use borrow.Author.Rules.{rules}
 use Rattle.lent.specs.declared.Wrote.{Wrote}
 use Rattle.lent.specs.Laws.{front}
 use Rattle.rewrite.proofs.copy_gap.Goals as goal

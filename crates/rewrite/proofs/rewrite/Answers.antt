@@ -1,14 +1,11 @@
 use mathlib.Core.Path.{◌≡◌, ap, sym, ◌∙◌}
 use mathlib.Core.List.{List}
 use Prim.Native.Nat.{ℕ}
-use borrow.Author.Rules.{rules}
 use native.Mathlib.Omega.{arith}
 use lib.ListN.{length}
 use Rattle.header.specs.declared.HeaderRead.{HeaderRead}
 use Rattle.outline.specs.Outline.{outline_of}
-use Rattle.cursor.specs.declared.Started.TheVariants as started
 use Rattle.cursor.specs.Parts.{outline_in}
-use Rattle.cursor.specs.Cursor.{started_of}
 use Rattle.rewrite.specs.declared.Rewrote.TheVariants.{Bytes}
 use Rattle.rewrite.proofs.Answer.{left_tiles, no_room, all-written, not_begun}
 use Rattle.rewrite.proofs.rewrite.Goals as goal

@@ -1,4 +1,3 @@
-use borrow.Author.Rules.{rules}
 use native.Mathlib.Omega.{arith}
 use Rattle.rewrite.proofs.Laid.{header_laid}
 use Rattle.rewrite.proofs.rewrite_header.Goals as goal

@@ -1,4 +1,3 @@
-use borrow.Author.Rules.{rules}
 use Rattle.rewrite.specs.Back.{part_back}
 use Rattle.rewrite.specs.Asked.{PartIs}
 use Rattle.rewrite.proofs.rewrite_part.Goals as goal

@@ -1,17 +1,10 @@
-use Prim.Native.Nat.{ℕ, ◌+◌, ◌≤◌}
-use mathlib.Core.Path.{◌≡◌, refl, ap, ◌∙◌}
-use mathlib.Core.List.{◌∷◌}
-use native.Mathlib.Omega.{arith}
-use borrow.Author.Rules.{rules}
-use lib.ListN.{length, length-take, length-drop}
+use Prim.Native.Nat.{ℕ}
+use mathlib.Core.Path.{◌≡◌}
+use lib.ListN.{length}
 use lib.Seq.{sets}
-use Rattle.le.specs.Le.{Bytes}
-use Rattle.lent.specs.Laws.{whole}
 use Rattle.cursor.specs.Cursor.{left_of}
 use Rattle.rewrite.specs.Rewritten.{back_of}
 use Rattle.rewrite.specs.Asked.{Tiles}
-use Rattle.rewrite.specs.Whole.{first_ends, length_tiles}
-use Rattle.rewrite.proofs.Turn.{cut-length, cut-whole, part_turn, first-left, none_left}
 use Rattle.rewrite.proofs.rewrite_parts.Given as goal
 
 -- The invariant is over the parts that are left: from a place on they cover the file, and laid there they make of the

@@ -1,9 +1,7 @@
 use Prim.Native.Nat.{◌+◌, ◌-◌, ◌*◌}
 use mathlib.Core.Path.{◌≡◌, refl, ap, ◌∙◌}
 use native.Mathlib.Omega.{arith}
-use borrow.Author.Rules.{rules}
-use lib.ListN.{length, drop, length-take, length-drop}
-use lib.Seq.{sets}
+use lib.ListN.{length, length-take, length-drop}
 use Rattle.lent.specs.Laws.{whole, less_one}
 use Rattle.format.specs.declared.FormatLen.TheVariants as len
 use Rattle.rewrite.specs.Back.{points_back}

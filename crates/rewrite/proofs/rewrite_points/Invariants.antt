@@ -1,14 +1,8 @@
-use Prim.Native.Nat.{◌+◌, ◌-◌, ◌*◌}
-use mathlib.Core.Path.{◌≡◌, refl, ap, ◌∙◌}
-use native.Mathlib.Omega.{arith}
-use borrow.Author.Rules.{rules}
-use lib.ListN.{length, drop, length-take, length-drop}
+use Prim.Native.Nat.{◌+◌, ◌*◌}
+use mathlib.Core.Path.{◌≡◌}
+use lib.ListN.{length, drop}
 use lib.Seq.{sets}
-use Rattle.lent.specs.Laws.{whole, less_one}
-use Rattle.format.specs.declared.FormatLen.TheVariants as len
 use Rattle.rewrite.specs.Back.{points_back}
-use Rattle.rewrite.specs.Laws.{part_same}
-use Rattle.rewrite.proofs.Turn.{points_turn}
 use Rattle.rewrite.proofs.rewrite_points.Given as goal
 
 -- The invariant is over what is left: laid from here on, it makes of the destination what is promised.

@@ -1,5 +1,4 @@
 use mathlib.Core.Path.{◌∙◌}
-use borrow.Author.Rules.{rules}
 use borrow.Author.Tests.{le-ltb, lt-ltb, le-leb, lt-leb}
 use Rattle.refusal.proofs.Tests.{tests}
 use Rattle.rules.specs.Rules.{first, record_number, header_rules}

@@ -1,11 +1,8 @@
 use Prim.Native.Nat.{◌+◌, ◌-◌, ◌≤◌}
-use mathlib.Core.Path.{◌≡◌, refl, sym, ◌∙◌}
-use native.Mathlib.Omega.{arith}
-use borrow.Author.Rules.{rules}
+use mathlib.Core.Path.{◌≡◌}
 use lib.ListN.{length, drop}
 use Rattle.rules.specs.declared.Checked.TheVariants.{Accepted}
 use Rattle.rules.specs.Rules.{first, record_rules}
-use Rattle.rules.proofs.Walk.{none_left, refused-at, whole-at}
 use Rattle.rules.proofs.check_records.Given as goal
 
 -- The invariant: what is still to be walked decides, after those found whole, and they are what was spent.

@@ -2,7 +2,6 @@ use Prim.Native.Nat.{ℕ}
 use mathlib.Core.Path.{◌≡◌, sym, ap, ◌∙◌}
 use mathlib.Core.Bool.{false}
 use native.Mathlib.Omega.{arith}
-use borrow.Author.Rules.{rules}
 use Rattle.format.specs.declared.NewFormat.TheVariants as new
 use Rattle.format.specs.declared.FormatLen.TheVariants as len
 use Rattle.format.specs.Codes.{coded}
@@ -20,6 +19,7 @@ returns-in_default c =
     let p = sym c.in_default.is ∙ m.new.ensures ∙ code-known m.args.f m.requires in
     let z : ◌≡◌ {A = ℕ} 0 1 = cc in
     absurd (omega arith)
+
 -- the length of the format that was made
 known : (c : After-len) → c.len.result ≡ len.Is (format_bytes c.args.f)
 known c =

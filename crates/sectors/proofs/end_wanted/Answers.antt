@@ -1,6 +1,5 @@
 use mathlib.Core.Path.{sym}
 use native.Mathlib.Omega.{arith}
-use borrow.Author.Rules.{rules}
 use Rattle.refusal.specs.Laws.{wanted-fits, wanted_over}
 use Rattle.sectors.proofs.end_wanted.Goals as goal
 

@@ -1,5 +1,4 @@
 use native.Mathlib.Omega.{arith}
-use borrow.Author.Rules.{rules}
 use Rattle.sectors.specs.Sectors.{point_stores}
 use Rattle.sectors.proofs.point_stores.Goals as goal
 

@@ -1,5 +1,4 @@
 use mathlib.Core.Path.{◌≡◌, ap, sym, ◌∙◌}
-use borrow.Author.Rules.{rules}
 use Rattle.walker.specs.declared.Start.{Start}
 use Rattle.sheet_count.specs.declared.Counted.{Counted}
 use Rattle.sheet.specs.Sheet.{added_by, added_of}

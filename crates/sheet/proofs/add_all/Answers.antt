@@ -1,9 +1,8 @@
-use Prim.Native.Nat.{◌+◌, ◌-◌, ◌^◌, ◌<◌}
+use Prim.Native.Nat.{◌+◌, ◌^◌, ◌<◌}
 use mathlib.Core.Path.{refl}
 use native.Mathlib.Omega.{arith}
-use borrow.Author.Rules.{rules}
 use lib.ListN.{length, get_or}
-use Rattle.sheet.proofs.Adding.{Adding, fits-here, step, done}
+use Rattle.sheet.proofs.Adding.{fits-here, step, done}
 use Rattle.sheet.proofs.add_all.Goals as goal
 use Rattle.sheet.proofs.add_all.Goals.{In-loop-i}
 

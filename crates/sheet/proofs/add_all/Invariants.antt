@@ -1,9 +1,6 @@
-use Prim.Native.Nat.{◌+◌, ◌-◌, ◌^◌, ◌<◌}
-use mathlib.Core.Path.{refl}
-use native.Mathlib.Omega.{arith}
-use borrow.Author.Rules.{rules}
-use lib.ListN.{length, get_or}
-use Rattle.sheet.proofs.Adding.{Adding, fits-here, step, done}
+use Prim.Native.Nat.{◌-◌}
+use lib.ListN.{length}
+use Rattle.sheet.proofs.Adding.{Adding}
 use Rattle.sheet.proofs.add_all.Given as goal
 
 abbrev pub invariant-loop-i : goal.invariant-loop-i

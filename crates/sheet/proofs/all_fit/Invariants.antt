@@ -1,12 +1,7 @@
-use Prim.Native.Nat.{ℕ, ◌+◌, ◌-◌}
-use mathlib.Core.Path.{◌≡◌, refl, ap, sym, ◌∙◌}
-use mathlib.Core.Bool.{Bool, ◌&&◌}
-use native.Mathlib.Omega.{arith}
-use borrow.Author.Rules.{rules}
-use borrow.Author.Tests.{not-true, not-false}
+use Prim.Native.Nat.{◌-◌}
+use mathlib.Core.Path.{◌≡◌}
 use lib.ListN.{length, drop}
 use Rattle.sheet.specs.Sheet.{all_fit}
-use Rattle.sheet.specs.Laws.{all_fit_step, all_fit_end}
 use Rattle.sheet.proofs.all_fit.Given as goal
 
 -- The invariant is over what is left: whether the numbers from here on fit is whether all do.

@@ -1,5 +1,4 @@
 use mathlib.Core.Path.{ap, sym, ◌∙◌}
-use borrow.Author.Rules.{rules}
 use Rattle.sheet_count.specs.declared.Bounds.TheVariants.{Are}
 use Rattle.sheet.specs.Sheet.{both_bounds}
 use Rattle.sheet.proofs.both_bounds.Goals as goal

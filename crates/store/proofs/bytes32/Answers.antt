@@ -1,4 +1,3 @@
-use borrow.Author.Rules.{rules}
 use Rattle.store.proofs.Copied.{copied, none}
 use Rattle.store.proofs.bytes32.Goals as goal
 

@@ -1,4 +1,3 @@
-use borrow.Author.Rules.{rules}
 use Rattle.strict.specs.Fit.{fit_of}
 use Rattle.strict.proofs.check.Goals as goal
 

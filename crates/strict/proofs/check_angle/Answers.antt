@@ -1,6 +1,5 @@
 use mathlib.Core.Path.{ap, ◌∙◌}
 use lib.IntN.{ℤ}
-use borrow.Author.Rules.{rules}
 use mir.Syntax.{w16}
 use Rattle.le.proofs.Twos.{kept}
 use Rattle.angle.specs.declared.ScanAngle.TheVariants.{Scaled}

@@ -1,5 +1,4 @@
 use mathlib.Core.Path.{◌∙◌}
-use borrow.Author.Rules.{rules}
 use Rattle.strict.specs.Fit.{first_of}
 use Rattle.strict.proofs.check_fields.Goals as goal
 

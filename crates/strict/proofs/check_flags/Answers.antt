@@ -1,4 +1,3 @@
-use borrow.Author.Rules.{rules}
 use Rattle.strict.specs.Fit.{flags_fit_of}
 use Rattle.strict.proofs.check_flags.Goals as goal
 

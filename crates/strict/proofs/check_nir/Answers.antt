@@ -1,5 +1,4 @@
 use borrow.Author.Tests.{ne_eqb}
-use borrow.Author.Rules.{rules}
 use Rattle.strict.proofs.check_nir.Goals as goal
 
 pub returns-else-n-eq0 : goal.returns-else-n-eq0

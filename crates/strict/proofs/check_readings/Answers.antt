@@ -1,5 +1,4 @@
 use mathlib.Core.Path.{◌≡◌, sym}
-use borrow.Author.Rules.{rules}
 use Rattle.refusal.proofs.Tests.{tests}
 use Rattle.strict.specs.Fit.{overlap_goes, readings_fit}
 use Rattle.strict.proofs.check_readings.Goals as goal

@@ -24,6 +24,7 @@ within k last n h l = go (leb n last) refl
     go : (t : Bool) → leb n last ≡ t → not (ltb k (nearest n)) ≡ t
     go true e = ap not (le-ltb k (nearest n) (omega (arith, leb-true n last e, (nearest-whole n).1)))
     go false e = ap not (lt-ltb k (nearest n) (omega (arith, leb-false n last e, (nearest-whole n).0)))
+
 -- a rank that is not above zero is tested at the lower end
 below : (m : ℕ) → rank_fits (neg_ℤ (pos m)) ≡ (not (ltb 90 m) && true)
 unfolding rank_fits

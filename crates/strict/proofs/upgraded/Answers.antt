@@ -1,5 +1,4 @@
 use mathlib.Core.Path.{ap, ◌∙◌}
-use borrow.Author.Rules.{rules}
 use mir.Syntax.{w16}
 use Rattle.le.proofs.Twos.{kept}
 use Rattle.strict.specs.Upgrade.{upgraded_to, to_its_own}

@@ -1,4 +1,3 @@
-use borrow.Author.Rules.{rules}
 use mir.Syntax.{w16, w32}
 use Rattle.angle.specs.declared.ScanAngle.TheVariants.{Scaled}
 use Rattle.point.specs.declared.MaybeNir.TheVariants.{None}

@@ -1,15 +1,7 @@
-use Prim.Native.Nat.{ℕ, ◌+◌, ◌-◌, ◌*◌, ◌≤◌}
+use Prim.Native.Nat.{◌+◌, ◌*◌, ◌≤◌}
 use mathlib.Core.Path.{◌≡◌}
-use mathlib.Core.Bool.{cond}
-use native.Mathlib.Omega.{arith}
-use borrow.Author.Rules.{rules}
-use lib.Dec.{eqb}
 use lib.ListN.{length, drop}
-use Rattle.lent.specs.Laws.{less_one}
-use Rattle.format.specs.Length.{len_is}
-use Rattle.tally.specs.Tally.{count_of, by_return}
-use Rattle.tally.specs.Laws.{count_most}
-use Rattle.tally.proofs.Turn.{count_turn, none_left}
+use Rattle.tally.specs.Tally.{count_of}
 use Rattle.tally.proofs.count_all.Given as goal
 
 -- The invariant is over what is left: what is counted so far, and of the records from here on, is what is to be counted.

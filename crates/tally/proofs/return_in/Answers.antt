@@ -1,5 +1,4 @@
 use mathlib.Core.Path.{◌≡◌, ap, sym, ◌∙◌}
-use borrow.Author.Rules.{rules}
 use Rattle.point.specs.Read.{read_of}
 use Rattle.tally.specs.Tally.{return_in}
 use Rattle.tally.specs.Laws.{return_marked, marks_tell}

@@ -1,9 +1,8 @@
-use Prim.Native.Nat.{◌-◌, ◌≤◌}
-use mathlib.Core.Path.{◌≡◌, refl, sym, ◌∙◌}
+use mathlib.Core.Path.{refl, sym, ◌∙◌}
 use mathlib.Core.Bool.{true, false}
 use native.Mathlib.Omega.{arith}
-use lib.ListN.{length, drop}
-use Rattle.text_rest.specs.Rest.{rest_after, rest_of}
+use lib.ListN.{length}
+use Rattle.text_rest.specs.Rest.{rest_of}
 use Rattle.text_rest.specs.Laws.{at_zero, at_other, at-end}
 use Rattle.text_rest.proofs.end_of.Goals as goal
 

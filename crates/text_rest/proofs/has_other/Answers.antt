@@ -1,9 +1,7 @@
-use Prim.Native.Nat.{◌-◌}
-use mathlib.Core.Path.{◌≡◌, refl, sym, ◌∙◌}
+use mathlib.Core.Path.{refl, sym, ◌∙◌}
 use mathlib.Core.Bool.{true}
 use native.Mathlib.Omega.{arith}
-use lib.ListN.{length, drop}
-use Rattle.text_rest.specs.Rest.{rest_after, rest_of}
+use Rattle.text_rest.specs.Rest.{rest_of}
 use Rattle.text_rest.specs.Laws.{at_zero, at_other, at-end}
 use Rattle.text_rest.proofs.has_other.Goals as goal
 

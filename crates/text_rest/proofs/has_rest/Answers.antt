@@ -1,5 +1,4 @@
 use mathlib.Core.Path.{ap, ◌∙◌}
-use borrow.Author.Rules.{rules}
 use Rattle.text_rest.specs.Rest.{rest_of}
 use Rattle.text_rest.proofs.has_rest.Goals as goal
 

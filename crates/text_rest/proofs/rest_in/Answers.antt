@@ -1,5 +1,4 @@
 use mathlib.Core.Path.{◌∙◌}
-use borrow.Author.Rules.{rules}
 use Rattle.text_rest.proofs.rest_in.Goals as goal
 
 pub returns : goal.returns

@@ -1,5 +1,4 @@
 use mathlib.Core.Path.{ap}
-use borrow.Author.Rules.{rules}
 use Rattle.vlr.specs.declared.RecordLength.TheVariants as kind
 use Rattle.vlr.proofs.length_field.Goals as goal
 

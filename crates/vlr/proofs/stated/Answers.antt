@@ -1,5 +1,4 @@
 use mathlib.Core.Path.{ap}
-use borrow.Author.Rules.{rules}
 use borrow.Author.Tests.{lt-ltb, le-ltb}
 use Rattle.vlr.specs.declared.StatedLength.TheVariants.{Is}
 use Rattle.vlr.specs.Vlr.{stated_of}

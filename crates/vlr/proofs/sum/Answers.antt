@@ -1,6 +1,5 @@
 use Prim.Native.Nat.{◌+◌}
 use mathlib.Core.Path.{sym}
-use borrow.Author.Rules.{rules}
 use native.Mathlib.Omega.{arith}
 use Rattle.refusal.specs.Laws.{wanted-fits, wanted_over}
 use Rattle.vlr.proofs.sum.Goals as goal

@@ -20,6 +20,7 @@ pub returns-then-data-wanted : goal.returns-then-data-wanted
 returns-then-data-wanted c =
     let a = c.args in
     rw c.to_u64-wanted.ensures (sym (other_length a.vlr a.«data».now a.dst.now (λ e. omega arith)))
+
 -- past the first test the data has the stated length
 module _ (h : After-head_size-head) where
   abbrev begun : Start

@@ -1,4 +1,3 @@
-use borrow.Author.Rules.{rules}
 use Rattle.walker.specs.Begin.{first_place}
 use Rattle.walker.proofs.first_place.Goals as goal
 

@@ -1,5 +1,4 @@
 use mathlib.Core.Path.{sym, ap}
-use borrow.Author.Rules.{rules}
 use Rattle.walker.specs.Walk.{refusal_by, refusal_of}
 use Rattle.walker.proofs.refusal_at.Goals as goal
 

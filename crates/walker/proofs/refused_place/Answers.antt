@@ -1,4 +1,3 @@
-use borrow.Author.Rules.{rules}
 use Rattle.walker.specs.Begin.{refused_place}
 use Rattle.walker.proofs.refused_place.Goals as goal
 

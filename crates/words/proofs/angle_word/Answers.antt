@@ -4,7 +4,6 @@ use mir.Syntax.{w8, w16}
 use mir.Val.{of_z}
 use Rattle.le.proofs.Twos.{kept}
 use Rattle.words.specs.Words.{angle_word}
-use borrow.Author.Rules.{rules}
 use Rattle.words.proofs.angle_word.Goals as goal
 
 pub returns-in-Rank : goal.returns-in-Rank

@@ -1,6 +1,5 @@
 use mathlib.Core.Path.{sym, ap, ◌∙◌}
 use Rattle.words.specs.Words.{flags_word}
-use borrow.Author.Rules.{rules}
 use Rattle.words.proofs.flags_word.Goals as goal
 
 pub returns-in-TwoByte : goal.returns-in-TwoByte

@@ -1,5 +1,4 @@
 use Rattle.words.specs.Words.{format_of_word}
-use borrow.Author.Rules.{rules}
 use Rattle.words.proofs.format_of.Goals as goal
 
 pub returns : goal.returns

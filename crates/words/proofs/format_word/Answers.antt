@@ -1,6 +1,5 @@
 use native.Mathlib.Omega.{arith}
 use Rattle.words.specs.Words.{format_word}
-use borrow.Author.Rules.{rules}
 use Rattle.words.proofs.format_word.Goals as goal
 
 pub returns : goal.returns

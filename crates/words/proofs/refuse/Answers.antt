@@ -1,6 +1,5 @@
 use mathlib.Core.List.{[], ◌∷◌}
 use mathlib.Core.Path.{◌∙◌}
-use borrow.Author.Rules.{rules}
 use Rattle.words.proofs.refuse.Goals as goal
 
 pub returns : goal.returns

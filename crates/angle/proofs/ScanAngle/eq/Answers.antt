@@ -1,4 +1,3 @@
-use borrow.Author.Rules.{rules}
 use mathlib.Core.Path.{◌∙◌}
 use mir.Syntax.{w8, w16}
 use Rattle.angle.specs.Angle.{same_angle}

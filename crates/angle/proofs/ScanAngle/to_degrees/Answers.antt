@@ -1,4 +1,3 @@
-use borrow.Author.Rules.{rules}
 use mir.Syntax.{w8, w16}
 use Rattle.angle.specs.Angle.{step}
 use Rattle.le.proofs.Twos.{kept}

@@ -1,4 +1,3 @@
-use borrow.Author.Rules.{rules}
 use mathlib.Core.Path.{sym, ap, ◌∙◌}
 use mir.Syntax.{w8, w16}
 use Rattle.angle.specs.Angle.{nearest_rank, held, rank_of, to_rank}

@@ -1,5 +1,4 @@
 use mathlib.Core.Path.{sym, ap, ◌∙◌}
-use borrow.Author.Rules.{rules}
 use mir.Syntax.{w8, w16}
 use Rattle.le.proofs.Twos.{kept}
 use Rattle.angle.specs.Angle.{scaled_of, to_scaled}

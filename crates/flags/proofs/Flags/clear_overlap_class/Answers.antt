@@ -1,6 +1,5 @@
 use mathlib.Core.Path.{sym, ap, ◌∙◌}
 use Rattle.flags.specs.Bytes.{cleared_of}
-use borrow.Author.Rules.{rules}
 use Rattle.flags.proofs.Flags.clear_overlap_class.Goals as goal
 
 pub returns-in-TwoByte : goal.returns-in-TwoByte

@@ -1,7 +1,6 @@
 use borrow.Author.Tests.{eq-eqb, ne_eqb}
 use native.Mathlib.Omega.{arith}
 use Rattle.flags.specs.Bytes.{same_of}
-use borrow.Author.Rules.{rules}
 use Rattle.flags.proofs.Flags.eq.Goals as goal
 
 -- what the two calls answered, in place of the definition's own three bytes

@@ -1,6 +1,5 @@
 use mathlib.Core.Path.{sym, ap}
 use Rattle.flags.specs.Readings.{edge_of}
-use borrow.Author.Rules.{rules}
 use Rattle.flags.proofs.Flags.is_edge_of_flight_line.Goals as goal
 
 pub returns-in-TwoByte : goal.returns-in-TwoByte

@@ -1,5 +1,4 @@
 use mathlib.Core.Path.{sym, ap}
-use borrow.Author.Rules.{rules}
 use Rattle.flags.specs.Readings.{withheld_of}
 use Rattle.flags.proofs.Flags.is_withheld.Goals as goal
 

@@ -1,5 +1,4 @@
 use mathlib.Core.Path.{sym, ap}
-use borrow.Author.Rules.{rules}
 use Rattle.flags.specs.Readings.{number_of_returns_of}
 use Rattle.flags.proofs.Flags.number_of_returns.Goals as goal
 

@@ -1,5 +1,4 @@
 use mathlib.Core.Path.{sym, ap}
-use borrow.Author.Rules.{rules}
 use Rattle.flags.specs.Readings.{return_number_of}
 use Rattle.flags.proofs.Flags.return_number.Goals as goal
 

@@ -1,6 +1,5 @@
 use mathlib.Core.Path.{sym, ap, ◌∙◌}
 use Rattle.flags.specs.Readings.{direction_of}
-use borrow.Author.Rules.{rules}
 use Rattle.flags.proofs.Flags.scan_direction.Goals as goal
 
 pub returns-in-TwoByte : goal.returns-in-TwoByte

@@ -1,6 +1,5 @@
 use mathlib.Core.Path.{sym, ap}
 use Rattle.flags.specs.Readings.{channel_of}
-use borrow.Author.Rules.{rules}
 use Rattle.flags.proofs.Flags.scanner_channel.Goals as goal
 
 pub returns-in-ThreeByte : goal.returns-in-ThreeByte

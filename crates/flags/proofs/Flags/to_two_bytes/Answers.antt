@@ -1,6 +1,5 @@
 use mathlib.Core.Path.{sym, ap, ◌∙◌}
 use Rattle.flags.specs.Bytes.{two_bytes_of}
-use borrow.Author.Rules.{rules}
 use Rattle.flags.proofs.Flags.to_two_bytes.Goals as goal
 
 pub returns-in-TwoByte : goal.returns-in-TwoByte

@@ -1,4 +1,3 @@
-use borrow.Author.Rules.{rules}
 use Rattle.format.proofs.Field.size.Goals as goal
 
 -- In each arm the match tells which field it is, and the definition gives that field's size.

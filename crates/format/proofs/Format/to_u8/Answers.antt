@@ -1,4 +1,3 @@
-use borrow.Author.Rules.{rules}
 use Rattle.format.specs.Codes.{is_in, coded, first_with, code_by, code_of}
 use Rattle.format.proofs.Lacking.{legacy_nir}
 use Rattle.format.proofs.Format.to_u8.Goals as goal

@@ -1,4 +1,3 @@
-use borrow.Author.Rules.{rules}
 use Rattle.header.specs.Header.{default_header}
 use Rattle.header.proofs.Header.default.Goals as goal
 

@@ -1,6 +1,5 @@
 use Prim.Native.Nat.{ℕ}
 use mathlib.Core.Path.{ap, ◌∙◌}
-use borrow.Author.Rules.{rules}
 use Rattle.header.specs.Header.{end_of, end_of_points}
 use Rattle.header.proofs.Header.offset_to_end_of_points.Goals as goal
 

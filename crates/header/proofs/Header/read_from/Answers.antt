@@ -1,6 +1,5 @@
 use mathlib.Core.Path.{sym, ap, ◌∙◌}
 use native.Mathlib.Omega.{arith}
-use borrow.Author.Rules.{rules}
 use lib.Seq.{length-take-le}
 use Rattle.header.specs.declared.HeaderAnswer.TheVariants.{Whole}
 use Rattle.header.specs.Judged.{read_by, read_of}

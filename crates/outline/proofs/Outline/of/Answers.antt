@@ -1,7 +1,5 @@
-use borrow.Author.Rules.{rules}
-use Prim.Native.Nat.{ℕ}
-use mathlib.Core.Bool.{Bool, cond}
-use mathlib.Core.Path.{◌≡◌, ap, ◌∙◌}
+use mathlib.Core.Bool.{cond}
+use mathlib.Core.Path.{ap, ◌∙◌}
 use Rattle.outline.specs.Outline.{evlr_start, evlr_count, is_waveform, has_waveform, outline_of}
 use Rattle.outline.proofs.Outline.of.Goals as goal
 

@@ -1,7 +1,6 @@
 use mathlib.Core.Path.{sym, ap, ◌∙◌}
 use Rattle.format.specs.Laws.{len_is}
 use Rattle.point.specs.Read.{sized_of, read_after, read_of}
-use borrow.Author.Rules.{rules}
 use Rattle.point.proofs.Point.read_from.Goals as goal
 
 pub read_sized-requires : goal.read_sized-requires

@@ -2,7 +2,6 @@ use Prim.Native.Nat.{ℕ}
 use Rattle.le.specs.declared.float.F32.{F32}
 use Rattle.point.specs.declared.Waveform.{Waveform}
 use Rattle.point.specs.Read.{waveform_at}
-use borrow.Author.Rules.{rules}
 use Rattle.point.proofs.Waveform.read_from.Goals as goal
 
 -- the waveform of what was read

@@ -1,5 +1,4 @@
 use mathlib.Core.Path.{sym, ap, ◌∙◌}
-use borrow.Author.Rules.{rules}
 use Rattle.point.specs.Read.{read_after, read_of}
 use Rattle.point.specs.Marks.{marks_read}
 use Rattle.format.specs.declared.FormatLen.{FormatLen}

@@ -1,0 +1,7 @@
+use mathlib.Core.Path.{sym, ap, ◌∙◌}
+use borrow.Author.Rules.{rules}
+use Rattle.capi_column.specs.Rows.{filled_row}
+use Rattle.capi_column.proofs.tell.Goals as goal
+
+pub returns-in-Refused : goal.returns-in-Refused
+returns-in-Refused c = c.refuse.ensures ∙ ap filled_row (sym c.in-Refused.is)

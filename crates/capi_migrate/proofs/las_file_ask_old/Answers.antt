@@ -1,0 +1,7 @@
+use mathlib.Core.Path.{ap, ◌∙◌}
+use borrow.Author.Rules.{rules}
+use Rattle.capi_ask.specs.Rows.{asked_row}
+use Rattle.capi_migrate.proofs.las_file_ask_old.Goals as goal
+
+pub returns : goal.returns
+returns c = c.tell.ensures ∙ ap asked_row c.ask_old.ensures

@@ -1,0 +1,9 @@
+use mathlib.Core.Path.{ap, ◌∙◌}
+use borrow.Author.Rules.{rules}
+use mir.Syntax.{w32}
+use mir.Val.{of_z}
+use Rattle.le.proofs.Twos.{kept}
+use Rattle.capi_sheet.proofs.bits.Goals as goal
+
+pub returns : goal.returns
+returns c = c.bits32.ensures ∙ ap (of_z w32) (kept w32 c.args.z c.ranges.z.sfits)
