@@ -2,7 +2,7 @@
 use Prim.Native.Nat.{ℕ, zero, suc, ◌+◌, ◌*◌, ◌≤◌, ◌<◌}
 use Rattle.std.specs.Prelude.{◌≡◌, Bool, cond, ◌&&◌, List, leb, drop}
 use Rattle.std.proofs.Math.Path.{refl}
-use Rattle.std.proofs.Common.{ap, sym, subst, ◌∙◌, suc-mul, le-leb, leb-true, leb-false, drop-drop}
+use Rattle.std.proofs.Common.{ap, sym, ◌∙◌, leb-true, leb-false, drop-drop}
 use Rattle.std.proofs.Math.Bool.{true, false, and-eq-true_iff}
 use native.Mathlib.Omega.{arith}
 use Rattle.descriptor.specs.Descriptor.{type_in, name_in}

@@ -1,6 +1,6 @@
 -- When an attribute is refused: document 02, No. 8, "Refusals, in order: file check; no such VLR; data not a multiple of 192; a type above 10;
 -- sizes adding up to more than the extra bytes; name not found".
-use Rattle.std.specs.Prelude.{ℕ, ◌+◌, ◌*◌, ◌%◌, ◌≤◌, ◌<◌, ◌≡◌, true, false, List, take, drop}
+use Rattle.std.specs.Prelude.{ℕ, ◌+◌, ◌*◌, ◌%◌, ◌≤◌, ◌<◌, ◌≡◌, false, List, take, drop}
 use Rattle.refusal.specs.declared.Refusal.{Refusal}
 use Rattle.refusal.specs.declared.Refusal.TheVariants.{NoDescriptors, DescriptorBytes, DataType, AttributeSizes, NameNotFound}
 use Rattle.format.specs.declared.Field.TheVariants.{ExtraBytes}

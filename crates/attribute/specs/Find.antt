@@ -1,5 +1,5 @@
 -- An attribute by its name: document 02, No. 8, "find an attribute by its name, zeros filling it to 32 bytes"; "of equal names, the first".
-use Rattle.std.specs.Prelude.{ℕ, zero, suc, ◌+◌, ◌*◌, ◌≤◌, ◌<◌, cond, List, length, take, drop}
+use Rattle.std.specs.Prelude.{ℕ, zero, suc, ◌+◌, ◌*◌, ◌≤◌, cond, List, length, take, drop}
 use Rattle.refusal.specs.declared.Refusal.TheVariants.{NameNotFound}
 use Rattle.descriptor.specs.Layout.{descriptor_size}
 use Rattle.descriptor.specs.Descriptor.{name_in}

@@ -10,13 +10,13 @@ use Rattle.le.specs.Le.{num}
 use Rattle.le.specs.Part.{num-drop}
 use Rattle.refusal.specs.declared.Refusal.TheVariants.{DescriptorBytes, DataType, AttributeSizes}
 use Rattle.descriptor.specs.Sizes.{size_of}
-use Rattle.descriptor.specs.Descriptor.{type_in, options_in, name_in}
+use Rattle.descriptor.specs.Descriptor.{type_in, name_in}
 use Rattle.outline.specs.declared.Outline.{Outline}
 use Rattle.file.specs.Points.{point_format}
 use Rattle.names.specs.Names.{is_named}
 use Rattle.attribute.specs.declared.Attributes.{Attributes}
 use Rattle.attribute.specs.declared.Begun.TheVariants as begun
-use Rattle.attribute.specs.declared.Named.TheVariants.{At, Nothing}
+use Rattle.attribute.specs.declared.Named.TheVariants.{At}
 use Rattle.attribute.specs.Attributes.{size_in, size_at, types_known, sizes_of, before_first, described_in, has_next, ended, attribute_at, after, next_of}
 use Rattle.attribute.specs.Find.{named_from}
 

@@ -1,5 +1,5 @@
 -- Which attribute is found by a name, and when none is.
-use Rattle.std.specs.Prelude.{ℕ, zero, suc, ◌+◌, ◌*◌, ◌-◌, ◌≤◌, ◌<◌, ◌≡◌, refl, Bool, true, false, List, length, take, drop}
+use Rattle.std.specs.Prelude.{ℕ, zero, suc, ◌+◌, ◌*◌, ◌-◌, ◌≤◌, ◌<◌, ◌≡◌, refl, List, take, drop}
 use Rattle.std.proofs.Math.Path.{ap}
 use Rattle.std.proofs.Common.{sym, subst, ◌∙◌, add-zero, le-leb, drop-drop}
 use native.Mathlib.Omega.{arith}
@@ -25,7 +25,7 @@ use Rattle.attribute.specs.declared.Named.TheVariants.{At, Nothing}
 use Rattle.attribute.specs.Attributes.{size_in, sizes_of, before_first, attribute_at, begun_of}
 use Rattle.attribute.specs.Find.{named_from, searched_by, searched_in, found_by, found_of}
 use Rattle.attribute.specs.Laws.{described}
-use Rattle.attribute.specs.Each.{nth, has, FirstNamed, Answers, types_all, answers, none_has}
+use Rattle.attribute.specs.Each.{nth, FirstNamed, Answers, types_all, answers, none_has}
 use Rattle.attribute.specs.Exact.{DataAt, descriptors, Fitting, NotFoundFor, none, no_name, FoundIn}
 use Rattle.attribute.specs.Ready.{Began, began}
 use Rattle.attribute.specs.Told.{types-known, by_data, whole, then_none, none_then}

@@ -1,10 +1,8 @@
 -- What it says that there is a place before the first attribute of a file.
-use Rattle.std.specs.Prelude.{ℕ, ◌+◌, ◌*◌, ◌/◌, ◌%◌, ◌≤◌, true, List, length, take, drop}
+use Rattle.std.specs.Prelude.{ℕ, ◌+◌, ◌*◌, ◌/◌, ◌≤◌, true, List, length, take, drop}
 use Rattle.std.proofs.Math.Path.{◌≡◌, refl, subst⁻¹}
 use Rattle.std.proofs.Common.{ap, sym, subst, ◌∙◌, div-add-mod', arith, length-drop, length-take-le}
 use Rattle.le.specs.Le.{Bytes}
-use Rattle.refusal.specs.declared.Refusal.{Refusal}
-use Rattle.format.specs.Fields.{record_bytes}
 use Rattle.format.specs.Laws.{record_sum, fixed_le}
 use Rattle.outline.specs.declared.Outline.{Outline}
 use Rattle.rules.specs.declared.Checked.TheVariants as checked
@@ -20,8 +18,8 @@ use Rattle.first_vlr.specs.First.{opened_of, first_of}
 use Rattle.first_vlr.specs.Laws.{found_within, opened_file_lem}
 use Rattle.attribute.specs.declared.Attributes.{Attributes}
 use Rattle.attribute.specs.declared.Begun.TheVariants as begun
-use Rattle.attribute.specs.Attributes.{types_known, sizes_of, before_first, described_in, lasf_spec, begun_by, begun_in, begun_after, begun_of}
-use Rattle.attribute.specs.Find.{descriptors_of, Ready}
+use Rattle.attribute.specs.Attributes.{types_known, sizes_of, before_first, lasf_spec, begun_by, begun_in, begun_after, begun_of}
+use Rattle.attribute.specs.Find.{Ready}
 use Rattle.attribute.specs.Laws.{described_says}
 
 -- the file is accepted, its first such VLR has n descriptors, and these pass the tests

@@ -1,6 +1,6 @@
 -- What is promised of attributes: document 02, No. 8.
 use Rattle.std.specs.Prelude.{ℕ, ◌+◌, ◌*◌, ◌≤◌, ◌<◌, ◌≡◌, true, false, List, take, drop, length}
-use Rattle.std.proofs.Common.{ap, ◌∙◌, zero-mul, arith}
+use Rattle.std.proofs.Common.{◌∙◌, zero-mul, arith}
 use Rattle.std.proofs.Math.Nat.{add-zero, sub-zero}
 use Rattle.le.specs.Le.{Bytes}
 use Rattle.refusal.specs.declared.Refusal.{Refusal}

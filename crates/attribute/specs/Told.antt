@@ -1,7 +1,7 @@
 -- The answers by their reasons, and the reasons by the answers.
-use Rattle.std.specs.Prelude.{ℕ, ◌+◌, ◌*◌, ◌/◌, ◌%◌, ◌≤◌, ◌<◌, Bool, List, length, drop}
+use Rattle.std.specs.Prelude.{ℕ, ◌*◌, ◌/◌, ◌%◌, ◌≤◌, ◌<◌, Bool, List, length, drop}
 use Rattle.std.proofs.Math.Path.{◌≡◌, refl, subst⁻¹}
-use Rattle.std.proofs.Common.{ap, sym, subst, ◌∙◌, arith, le-leb, leb-true, leb-false, eqb-true, length-drop, length-take-le}
+use Rattle.std.proofs.Common.{ap, sym, subst, ◌∙◌, arith, leb-false, eqb-true, length-drop, length-take-le}
 use Rattle.std.proofs.Math.Bool.{true, false, cond}
 use Rattle.std.proofs.lemmas.Bool.{lt-leb, eqb-false}
 use Rattle.std.proofs.Math.Dec.{leb, eqb}
@@ -22,7 +22,7 @@ use Rattle.attribute.specs.declared.Begun.TheVariants as begun
 use Rattle.attribute.specs.Attributes.{types_known, sizes_of, before_first, described_in, lasf_spec, begun_by, begun_in, begun_after, begun_of}
 use Rattle.attribute.specs.Laws.{not_a_multiple, type_unknown, sizes_over}
 use Rattle.attribute.specs.Each.{nth, types_all, types_some, type_above}
-use Rattle.attribute.specs.Exact.{Accepted, DataAt, descriptors, TypesKnown, NoneFor, file_check, no_such_vlr, no_multiple, unknown_type, too_long}
+use Rattle.attribute.specs.Exact.{Accepted, DataAt, descriptors, NoneFor, file_check, no_such_vlr, no_multiple, unknown_type, too_long}
 
 -- all types are known where each is
 pub types-known : (n : ℕ) (d : List ℕ) → ((k : ℕ) → k < n → type_in (nth k d) ≤ 10) → types_known n d ≡ true

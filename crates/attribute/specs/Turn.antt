@@ -1,19 +1,13 @@
 -- The attributes of a file one after the other.
 use Prim.Native.Nat.{ℕ, zero, suc, ◌+◌, ◌*◌, ◌-◌, ◌≤◌, ◌<◌}
-use Rattle.std.specs.Prelude.{◌≡◌, refl, Bool, true, false, List, length, take, drop}
+use Rattle.std.specs.Prelude.{◌≡◌, refl, true, false, List, length, take, drop}
 use Rattle.std.proofs.Math.Path.{ap}
-use Rattle.std.proofs.Common.{sym, subst, ◌∙◌, add-zero}
+use Rattle.std.proofs.Common.{subst, ◌∙◌}
 use native.Mathlib.Omega.{arith}
-use Rattle.format.specs.declared.Field.TheVariants.{ExtraBytes}
-use Rattle.format.specs.Fields.{place_of}
 use Rattle.descriptor.specs.Descriptor.{type_in}
-use Rattle.outline.specs.declared.Outline.{Outline}
-use Rattle.file.specs.Points.{point_format}
-use Rattle.cursor.specs.Parts.{outline_in}
-use Rattle.attribute.specs.declared.Attribute.{Attribute}
 use Rattle.attribute.specs.declared.Attributes.{Attributes}
 use Rattle.attribute.specs.declared.Step.{Step}
-use Rattle.attribute.specs.Attributes.{size_in, sizes_of, before_first, attribute_at, after, ended, next_of}
+use Rattle.attribute.specs.Attributes.{size_in, sizes_of, attribute_at, after, ended, next_of}
 use Rattle.attribute.specs.Laws.{none_left, one-there}
 use Rattle.attribute.specs.Each.{nth}
 use Rattle.attribute.specs.Named.{number, size, sizes-next, sizes-grow}

@@ -1,9 +1,9 @@
 -- What the buffer of a column holds.
-use Rattle.std.specs.Prelude.{ℕ, ◌+◌, ◌*◌, ◌-◌, ◌≤◌, ◌<◌, min, Bool, ltb, length, take}
+use Rattle.std.specs.Prelude.{ℕ, ◌+◌, ◌*◌, ◌-◌, ◌≤◌, ◌<◌, min, Bool, ltb, length}
 use Rattle.std.proofs.Math.Path.{◌≡◌, refl, ap, sym}
-use Rattle.std.proofs.Common.{◌∙◌, add-zero, add-mul, mul-le-mul_right, ltb-false}
+use Rattle.std.proofs.Common.{◌∙◌, add-zero, add-mul, mul-le-mul_right}
 use Rattle.std.proofs.Math.Bool.{true, false, cond}
-use mathlib.Core.List.{List, ◌++◌}
+use mathlib.Core.List.{List}
 use native.Mathlib.Omega.{arith}
 use Rattle.std.proofs.Math.ListN.{drop, get_or}
 use Rattle.std.proofs.Math.Seq.{drop_at}
@@ -16,9 +16,9 @@ use Rattle.column.specs.declared.Filled.TheVariants.{Entries, Refused}
 use Rattle.column.specs.Column.{same, firsts, entry_of, filled_of}
 use Rattle.column.specs.Fill.{length-firsts, first-at}
 use Rattle.attribute.specs.declared.Attribute.{Attribute}
-use Rattle.attribute_value.specs.Value.{value_at, lies, bytes_of, bits_of}
+use Rattle.attribute_value.specs.Value.{value_at, lies, bits_of}
 use Rattle.attribute_value.specs.Many.{all_lie, column_of}
-use Rattle.attribute_value.specs.Laws.{Lies, so_lies, bytes-at, first-bytes, all_say}
+use Rattle.attribute_value.specs.Laws.{so_lies, bytes-at, first-bytes, all_say}
 
 -- the number of a value, at its place
 pub bits_are : (a : Attribute) (point : ℕ) (s : List ℕ) → lies a point s ≡ true → bits_of a point s ≡ num (min a.size 8) (value_at a point) s

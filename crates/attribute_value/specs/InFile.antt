@@ -1,15 +1,13 @@
 -- The values of an attribute that was found in a file.
-use Rattle.std.specs.Prelude.{ℕ, ◌+◌, ◌*◌, ◌-◌, ◌≤◌, ◌<◌, ◌≡◌, refl, Bool, true, false, cond, List, [], length, take, drop, get_or}
-use Rattle.std.proofs.Common.{ap, sym, ◌∙◌, add-mul, mul-le-mul_right, suc-mul, arith, length-drop, take-take, drop-drop, length-take-le}
-use Rattle.le.specs.Le.{num, Bytes}
+use Rattle.std.specs.Prelude.{ℕ, ◌+◌, ◌*◌, ◌-◌, ◌≤◌, ◌<◌, ◌≡◌, List, length, take, drop}
+use Rattle.std.proofs.Common.{ap, sym, ◌∙◌, mul-le-mul_right, suc-mul, arith, length-drop, take-take, drop-drop, length-take-le}
+use Rattle.le.specs.Le.{Bytes}
 use Rattle.le.specs.Laws.{drop-take}
-use Rattle.le.specs.Part.{num-drop}
-use Rattle.refusal.specs.declared.Refusal.TheVariants.{Index}
 use Rattle.format.specs.declared.Format.{Format}
 use Rattle.format.specs.declared.Field.TheVariants.{ExtraBytes}
 use Rattle.format.specs.Fields.{place_of, record_bytes}
 use Rattle.format.specs.Laws.{record_sum, record_end}
-use Rattle.point.specs.Read.{field_of, extra_of}
+use Rattle.point.specs.Read.{extra_of}
 use Rattle.point.specs.Answer.{extra-whole}
 use Rattle.outline.specs.declared.Outline.{Outline}
 use Rattle.extents.specs.Extents.{points_end}
@@ -19,7 +17,7 @@ use Rattle.cursor.specs.Parts.{outline_in}
 use Rattle.attribute.specs.declared.Attribute.{Attribute}
 use Rattle.attribute.specs.Attributes.{sizes_of}
 use Rattle.attribute.specs.Exact.{descriptors, FoundIn}
-use Rattle.attribute_value.specs.Value.{value_at, lies, bytes_of}
+use Rattle.attribute_value.specs.Value.{value_at, bytes_of}
 use Rattle.attribute_value.specs.Laws.{Lies, so_lies, bytes-at}
 
 -- bytes in a part of a part

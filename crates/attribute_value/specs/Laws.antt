@@ -1,14 +1,13 @@
 -- Laws of values: what each test says, and the number that the first bytes of a value are.
-use Rattle.std.specs.Prelude.{ℕ, ◌+◌, ◌*◌, ◌-◌, ◌^◌, ◌≤◌, ◌<◌, min, Bool, ◌&&◌, List, [], ltb, leb, length, take, drop}
+use Rattle.std.specs.Prelude.{ℕ, ◌+◌, ◌*◌, ◌-◌, ◌≤◌, ◌<◌, min, Bool, List, [], leb, length, take, drop}
 use Rattle.std.proofs.Math.Path.{◌≡◌, refl}
-use Rattle.std.proofs.Common.{ap, sym, ◌∙◌, mul-zero, add-zero, add-mul, mul-le-mul_right, arith}
-use Rattle.std.proofs.Math.Bool.{true, false, cond, and-eq-true_iff, and-false}
+use Rattle.std.proofs.Common.{ap, ◌∙◌, mul-zero, add-zero, add-mul, mul-le-mul_right, arith}
+use Rattle.std.proofs.Math.Bool.{true, false, cond, and-eq-true_iff}
 use Rattle.std.proofs.Math.Nat.{min-eq_left, min-eq_right}
-use borrow.Author.Tests.{lt-ltb, le-leb, lt-leb, le-ltb, ltb-true, leb-true, leb-false, eq-eqb, ne_eqb, eqb-true}
+use borrow.Author.Tests.{lt-ltb, le-leb, le-ltb, ltb-true, leb-true, leb-false, eq-eqb, ne_eqb, eqb-true}
 use Rattle.std.proofs.Math.Dec.{eqb}
 use Rattle.le.specs.Le.{le, num}
 use Rattle.le.specs.Laws.{le-add, drop-take, num-take, num_past}
-use Rattle.le.specs.Part.{num-drop}
 use Rattle.refusal.specs.declared.Refusal.{Refusal}
 use Rattle.refusal.specs.declared.Refusal.TheVariants.{NoRoom, Index}
 use Rattle.column.specs.declared.Filled.TheVariants.{Entries, Refused}

@@ -1,9 +1,8 @@
 -- What is promised of an attribute's values: document 02, No. 8, "give its value in any point with the bits as stored".
-use Rattle.std.specs.Prelude.{ℕ, ◌+◌, ◌*◌, ◌-◌, ◌≤◌, ◌<◌, min, ◌≡◌, refl, Bool, true, false, List, ◌⊎◌, length, take, drop, get_or}
-use Rattle.std.proofs.Common.{ap, sym, ◌∙◌, ⊎_elim, add-mul, arith}
+use Rattle.std.specs.Prelude.{ℕ, ◌+◌, ◌<◌, min, ◌≡◌, true, List, ◌⊎◌, take, drop, get_or}
+use Rattle.std.proofs.Common.{ap, sym, ◌∙◌, ⊎_elim, arith}
 use Rattle.std.specs.Borrow.{Bor}
 use Rattle.le.specs.Le.{num, Bytes}
-use Rattle.le.specs.Part.{num-drop}
 use Rattle.refusal.specs.declared.Refusal.{Refusal}
 use Rattle.refusal.specs.declared.Refusal.TheVariants.{Index}
 use Rattle.point.specs.Read.{extra_of}
@@ -21,8 +20,8 @@ use Rattle.attribute.specs.Attributes.{sizes_of}
 use Rattle.attribute.specs.Exact.{descriptors, FoundIn}
 use Rattle.attribute_value.specs.declared.Placed.TheVariants as placed
 use Rattle.attribute_value.specs.Value.{value_at, lies, placed_of, bytes_of, bits_of}
-use Rattle.attribute_value.specs.Many.{all_lie, column_of}
-use Rattle.attribute_value.specs.Laws.{Lies, so_lies, lies_says, lies-not, placed_at, not-placed, refused_says, bytes-at}
+use Rattle.attribute_value.specs.Many.{column_of}
+use Rattle.attribute_value.specs.Laws.{so_lies, lies-not, placed_at, not-placed}
 use Rattle.attribute_value.specs.InFile.{value-lies, in_extra}
 use Rattle.attribute_value.specs.Filled.{bits_are, entry_is, rest_is, was-refused}
 

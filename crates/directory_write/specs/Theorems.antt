@@ -1,6 +1,6 @@
 -- What a directory that is written is worth: document 02, No. 14, "write a directory from keys in rising order". `written_of` (`Written.antt`)
 -- is what a call answers, and the destination that it leaves of d; `ks` are the numbers that were given, four for each key.
-use Rattle.std.specs.Prelude.{ℕ, ◌+◌, ◌*◌, ◌-◌, ◌^◌, ◌≤◌, ◌<◌, ◌≡◌, true, List, ◌++◌, ◌↔◌, length, drop}
+use Rattle.std.specs.Prelude.{ℕ, ◌+◌, ◌*◌, ◌^◌, ◌≤◌, ◌<◌, ◌≡◌, true, List, ◌++◌, ◌↔◌, length, drop}
 use Rattle.std.proofs.Common.{ap, sym, ◌∙◌, arith}
 use Rattle.refusal.specs.declared.Refusal.{Refusal}
 use Rattle.lent.specs.declared.Wrote.{Wrote}

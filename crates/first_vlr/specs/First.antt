@@ -1,5 +1,5 @@
 -- The first VLR with a user id and a record id: document 02, No. 8, "The first such VLR counts", and No. 14, "first VLRs".
-use Rattle.std.specs.Prelude.{ℕ, zero, suc, ◌+◌, Bool, true, false, cond, ◌&&◌, List, eqb, leb, length, drop}
+use Rattle.std.specs.Prelude.{ℕ, zero, suc, ◌+◌, Bool, false, cond, ◌&&◌, List, eqb, leb, length, drop}
 use Rattle.vlr.specs.declared.Extent.{Extent}
 use Rattle.vlr.specs.declared.Extent.TheVariants as extent
 use Rattle.vlr.specs.Layout.{UserId, RecordId, head_size}

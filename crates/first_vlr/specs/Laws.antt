@@ -9,7 +9,6 @@ use Rattle.std.proofs.Math.Seq.{drop-drop}
 use Rattle.refusal.specs.declared.Refusal.{Refusal}
 use Rattle.vlr.specs.declared.Extent.{Extent}
 use Rattle.vlr.specs.declared.Extent.TheVariants.{Bytes, Refused}
-use Rattle.vlr.specs.Layout.{head_size}
 use Rattle.vlr.specs.Vlr.{data_length, length_of, record_size, extent_of}
 use Rattle.vlr.specs.Laws.{Whole, accepted, record_size_lem}
 use Rattle.outline.specs.declared.Outline.{Outline}

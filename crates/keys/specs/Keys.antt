@@ -19,7 +19,6 @@ use Rattle.keys.specs.declared.Opened.{Opened}
 use Rattle.keys.specs.declared.Opened.TheVariants as opened
 use Rattle.keys.specs.declared.Part.{Part}
 use Rattle.keys.specs.declared.Part.TheVariants as part
-use Rattle.keys.specs.declared.Value.{Value}
 use Rattle.keys.specs.declared.Value.TheVariants.{Number, Doubles, Text}
 use Rattle.keys.specs.declared.KeyAt.{KeyAt}
 use Rattle.keys.specs.declared.KeyAt.TheVariants.{Is, Nothing}

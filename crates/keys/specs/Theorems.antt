@@ -3,7 +3,6 @@
 use Rattle.std.specs.Prelude.{ℕ, ◌+◌, ◌*◌, ◌≤◌, ◌<◌, ◌≡◌, refl, List, ◌++◌, ◌↔◌}
 use Rattle.std.proofs.Common.{ap, sym, ◌∙◌, arith}
 use Rattle.refusal.specs.declared.Refusal.{Refusal}
-use Rattle.first_vlr.specs.declared.FirstVlr.TheVariants as first
 use Rattle.directory.specs.Directory.{count_of, key_of, entry_of}
 use Rattle.directory_write.specs.Written.{given_count, given_key, directory_bytes}
 use Rattle.directory_write.specs.Exact.{given_entry}

@@ -1,7 +1,7 @@
 -- Laws of names: a field holds one exactly when each of its bytes is the name's, and 0 past the name's end.
 use Rattle.std.specs.Prelude.{ℕ, ◌+◌, ◌-◌, ◌≤◌, ◌<◌, ◌≡◌, Bool}
 use Rattle.std.proofs.Math.Path.{refl, ap, sym}
-use Rattle.std.proofs.Common.{subst, ◌∙◌, ext_get_or}
+use Rattle.std.proofs.Common.{◌∙◌, ext_get_or}
 use Rattle.std.proofs.Math.Bool.{true, false}
 use mathlib.Core.List.{List, ◌++◌}
 use native.Mathlib.Omega.{arith}

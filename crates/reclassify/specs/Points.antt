@@ -20,7 +20,6 @@ use Rattle.format.specs.declared.FormatLen.TheVariants as len
 use Rattle.format.specs.Fields.{len_of, record_bytes}
 use Rattle.format.specs.Laws.{len_is, record_sum}
 use Rattle.point.specs.declared.PointRead.{PointRead}
-use Rattle.point.specs.declared.PointRead.TheVariants.{Is}
 use Rattle.point.specs.Read.{point_of, extra_of}
 use Rattle.point.specs.Answer.{answered, whole_read}
 use Rattle.point.specs.Class.{reclassed, class_place, classed, record_with, point_classed, extra-classed}

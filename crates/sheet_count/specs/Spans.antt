@@ -1,5 +1,5 @@
 -- The smallest and the largest of some numbers: "attained and bounding".
-use Rattle.std.specs.Prelude.{◌≡◌, refl, Bool, true, false, cond, not, ◌⊎◌, T, leb, ltb, ℤ, pos, negsuc, ◌≤ℤ◌}
+use Rattle.std.specs.Prelude.{◌≡◌, refl, Bool, true, false, cond, not, ◌⊎◌, T, ℤ, pos, negsuc, ◌≤ℤ◌}
 use Rattle.std.proofs.Common.{ap, sym, subst, inl, inr, le_trans, le_antisymm, le_of_lt, leb→le, le→leb, ltb→lt}
 use Rattle.std.specs.Int.Signed.{lt_z, le_z, ≤ℤ_refl, lt_z_no}
 use Rattle.sheet_count.specs.declared.Range.{Range}

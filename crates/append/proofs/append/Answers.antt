@@ -1,5 +1,4 @@
 use mathlib.Core.Path.{◌≡◌, ap, sym, ◌∙◌}
-use borrow.Author.Rules.{rules}
 use Rattle.offer.specs.declared.Offer.{Offer}
 use Rattle.append.specs.declared.Appended.TheVariants.{Added}
 use Rattle.append.specs.Append.{appended_by, appended_of}

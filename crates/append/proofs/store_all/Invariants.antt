@@ -1,12 +1,6 @@
-use Prim.Native.Nat.{ℕ, ◌-◌, ◌≤◌}
-use mathlib.Core.Path.{◌≡◌, ap, sym, ◌∙◌}
-use mathlib.Core.List.{List}
-use native.Mathlib.Omega.{arith}
-use borrow.Author.Rules.{rules}
-use lib.ListN.{length}
-use Rattle.sectors.specs.declared.Stored.{Stored}
-use Rattle.sectors.specs.Sectors.{stores_of, stored_of, after_stores}
-use Rattle.sectors.specs.Laws.{after-length, after_none, after_next}
+use Prim.Native.Nat.{◌-◌, ◌≤◌}
+use mathlib.Core.Path.{◌≡◌}
+use Rattle.sectors.specs.Sectors.{after_stores}
 use Rattle.append.proofs.store_all.Given as goal
 
 abbrev pub invariant-loop-k : goal.invariant-loop-k

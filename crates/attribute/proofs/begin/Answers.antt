@@ -1,5 +1,4 @@
-use mathlib.Core.Path.{◌≡◌, ap, sym, ◌∙◌}
-use borrow.Author.Rules.{rules}
+use mathlib.Core.Path.{ap, sym, ◌∙◌}
 use Rattle.attribute.specs.Attributes.{begun_after, begun_of}
 use Rattle.attribute.proofs.begin.Goals as goal
 

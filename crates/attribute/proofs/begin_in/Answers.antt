@@ -2,10 +2,8 @@ use Prim.Native.Nat.{ℕ, ◌+◌, ◌-◌, ◌≤◌}
 use mathlib.Core.Path.{◌≡◌, ap, sym, ◌∙◌}
 use mathlib.Core.List.{List}
 use native.Mathlib.Omega.{arith}
-use borrow.Author.Rules.{rules}
 use lib.ListN.{length, take, drop}
 use Rattle.first_vlr.specs.declared.FirstVlr.{FirstVlr}
-use Rattle.first_vlr.specs.declared.FirstVlr.TheVariants.{At, Nothing}
 use Rattle.first_vlr.specs.First.{first_of}
 use Rattle.first_vlr.specs.Laws.{found_within}
 use Rattle.attribute.specs.Attributes.{lasf_spec, begun_by, begun_in, described_in}

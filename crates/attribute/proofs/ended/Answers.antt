@@ -1,5 +1,4 @@
 use mathlib.Core.Path.{refl}
-use borrow.Author.Rules.{rules}
 use Rattle.attribute.specs.Attributes.{ended}
 use Rattle.attribute.proofs.ended.Goals as goal
 

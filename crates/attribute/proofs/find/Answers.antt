@@ -1,5 +1,4 @@
 use mathlib.Core.Path.{◌≡◌, ap, sym, ◌∙◌}
-use borrow.Author.Rules.{rules}
 use Rattle.attribute.specs.declared.Begun.{Begun}
 use Rattle.attribute.specs.Attributes.{begun_of}
 use Rattle.attribute.specs.Find.{found_by, found_of}

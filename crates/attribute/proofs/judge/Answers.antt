@@ -1,8 +1,7 @@
-use Prim.Native.Nat.{ℕ, ◌+◌, ◌/◌, ◌%◌, ◌≤◌}
-use mathlib.Core.Path.{◌≡◌, ap, sym, subst, ◌∙◌}
+use Prim.Native.Nat.{ℕ, ◌+◌, ◌/◌}
+use mathlib.Core.Path.{◌≡◌, ap, sym, ◌∙◌}
 use mathlib.Core.Bool.{Bool}
 use native.Mathlib.Omega.{arith}
-use borrow.Author.Rules.{rules}
 use lib.Dec.{leb}
 use lib.ListN.{length}
 use Rattle.format.specs.declared.Format.{Format}
@@ -11,7 +10,6 @@ use Rattle.format.specs.Fields.{place_of}
 use Rattle.format.specs.Laws.{fixed_le}
 use Rattle.layout.specs.Placed.{placed}
 use Rattle.file.specs.Points.{point_format}
-use Rattle.attribute.specs.declared.Attributes.{Attributes}
 use Rattle.attribute.specs.declared.Begun.TheVariants.{At}
 use Rattle.attribute.specs.Attributes.{types_known, sizes_of, before_first}
 use Rattle.attribute.specs.Laws.{not_a_multiple, type_unknown, sizes_over, described}

@@ -1,13 +1,12 @@
-use Prim.Native.Nat.{ℕ, ◌+◌, ◌*◌, ◌-◌, ◌≤◌}
+use Prim.Native.Nat.{ℕ, ◌+◌, ◌-◌, ◌≤◌}
 use mathlib.Core.Path.{◌≡◌, refl, ap, sym, ◌∙◌}
 use mathlib.Core.Bool.{Bool}
 use mathlib.Core.List.{List}
 use native.Mathlib.Omega.{arith}
 use borrow.Author.Rules.{rules}
-use lib.ListN.{length, take, drop}
+use lib.ListN.{drop}
 use Rattle.descriptor.specs.Descriptor.{name_in}
 use Rattle.names.specs.Names.{is_named}
-use Rattle.attribute.specs.Attributes.{sizes_of}
 use Rattle.attribute.specs.Find.{named_from}
 use Rattle.attribute.specs.Laws.{name_at, sizes_turn, named_here, named_later}
 use Rattle.attribute.proofs.named_in.Goals as goal

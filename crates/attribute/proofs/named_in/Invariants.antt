@@ -1,15 +1,8 @@
-use Prim.Native.Nat.{ℕ, ◌+◌, ◌*◌, ◌-◌, ◌≤◌}
-use mathlib.Core.Path.{◌≡◌, refl, ap, sym, ◌∙◌}
-use mathlib.Core.Bool.{Bool}
-use mathlib.Core.List.{List}
-use native.Mathlib.Omega.{arith}
-use borrow.Author.Rules.{rules}
-use lib.ListN.{length, take, drop}
-use Rattle.descriptor.specs.Descriptor.{name_in}
-use Rattle.names.specs.Names.{is_named}
+use Prim.Native.Nat.{◌+◌, ◌*◌, ◌≤◌}
+use mathlib.Core.Path.{◌≡◌}
+use lib.ListN.{length, drop}
 use Rattle.attribute.specs.Attributes.{sizes_of}
 use Rattle.attribute.specs.Find.{named_from}
-use Rattle.attribute.specs.Laws.{name_at, sizes_turn, named_here, named_later}
 use Rattle.attribute.proofs.named_in.Given as goal
 
 -- The invariant: what is still to be searched decides, and the sizes before it and after it are those of all.

@@ -2,15 +2,12 @@ use Prim.Native.Nat.{ℕ, ◌+◌, ◌*◌, ◌-◌, ◌≤◌}
 use mathlib.Core.Path.{◌≡◌, ap, sym, subst, ◌∙◌}
 use mathlib.Core.List.{List}
 use native.Mathlib.Omega.{arith}
-use borrow.Author.Rules.{rules}
 use lib.ListN.{length, take, drop, length-drop}
 use lib.Seq.{length-take-le}
-use Rattle.descriptor.specs.Descriptor.{type_in}
 use Rattle.attribute.specs.declared.Attributes.{Attributes}
 use Rattle.attribute.specs.declared.Found.TheVariants.{Is}
 use Rattle.attribute.specs.declared.Named.{Named}
-use Rattle.attribute.specs.declared.Named.TheVariants.{At}
-use Rattle.attribute.specs.Attributes.{size_at, sizes_of, attribute_at}
+use Rattle.attribute.specs.Attributes.{sizes_of, attribute_at}
 use Rattle.attribute.specs.Find.{Ready, named_from, descriptors_of, searched_by, searched_in}
 use Rattle.attribute.specs.Laws.{type_at, named_within}
 use Rattle.attribute.proofs.search.Goals as goal

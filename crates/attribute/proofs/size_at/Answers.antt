@@ -1,6 +1,5 @@
-use mathlib.Core.Path.{◌≡◌, ◌∙◌}
+use mathlib.Core.Path.{◌∙◌}
 use native.Mathlib.Omega.{arith}
-use borrow.Author.Rules.{rules}
 use Rattle.descriptor.specs.Sizes.{size_of}
 use Rattle.attribute.specs.Laws.{size_by}
 use Rattle.attribute.proofs.size_at.Goals as goal

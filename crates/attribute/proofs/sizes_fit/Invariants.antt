@@ -1,13 +1,8 @@
-use Prim.Native.Nat.{ℕ, ◌+◌, ◌*◌, ◌-◌, ◌≤◌}
-use mathlib.Core.Path.{◌≡◌, refl, ap, sym, ◌∙◌}
-use mathlib.Core.Bool.{Bool, true, false}
-use native.Mathlib.Omega.{arith}
-use borrow.Author.Rules.{rules}
-use borrow.Author.Tests.{le-leb, lt-leb, leb-true, leb-false}
+use Prim.Native.Nat.{◌+◌, ◌*◌, ◌≤◌}
+use mathlib.Core.Path.{◌≡◌}
 use lib.Dec.{leb}
 use lib.ListN.{length, drop}
-use Rattle.attribute.specs.Attributes.{size_at, sizes_of}
-use Rattle.attribute.specs.Laws.{sizes_turn}
+use Rattle.attribute.specs.Attributes.{sizes_of}
 use Rattle.attribute.proofs.sizes_fit.Given as goal
 
 abbrev pub invariant-loop-left : goal.invariant-loop-left

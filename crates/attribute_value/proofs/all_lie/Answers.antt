@@ -1,8 +1,5 @@
-use Prim.Native.Nat.{ℕ, ◌+◌, ◌-◌, ◌≤◌}
-use mathlib.Core.Path.{◌≡◌, sym, ◌∙◌}
+use mathlib.Core.Path.{sym, ◌∙◌}
 use native.Mathlib.Omega.{arith}
-use borrow.Author.Rules.{rules}
-use Rattle.column.specs.Exact.{Within}
 use Rattle.attribute_value.specs.Laws.{none_lie, empty-lies, by_last}
 use Rattle.attribute_value.proofs.all_lie.Goals as goal
 

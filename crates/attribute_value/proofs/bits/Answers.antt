@@ -1,7 +1,4 @@
 use mathlib.Core.Path.{ap, ◌∙◌}
-use mathlib.Core.List.{List}
-use Prim.Native.Nat.{ℕ}
-use borrow.Author.Rules.{rules}
 use Rattle.le.specs.Le.{num}
 use Rattle.attribute_value.specs.Value.{bits_of}
 use Rattle.attribute_value.proofs.bits.Goals as goal

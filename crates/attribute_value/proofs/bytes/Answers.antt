@@ -1,12 +1,10 @@
 use Prim.Native.Nat.{ℕ, ◌+◌, ◌-◌, ◌≤◌}
 use mathlib.Core.Path.{◌≡◌, ap, sym, ◌∙◌}
-use mathlib.Core.List.{List}
 use mathlib.Core.Bool.{true}
 use native.Mathlib.Omega.{arith}
-use borrow.Author.Rules.{rules}
 use lib.ListN.{length, take, drop}
 use Rattle.attribute_value.specs.Value.{value_at, lies}
-use Rattle.attribute_value.specs.Laws.{Lies, lies_says, placed_says, refused_says, bytes-at, no_bytes}
+use Rattle.attribute_value.specs.Laws.{lies_says, placed_says, refused_says, bytes-at, no_bytes}
 use Rattle.attribute_value.proofs.bytes.Goals as goal
 use Rattle.attribute_value.proofs.bytes.Goals.{After-place, In-At, Start}
 

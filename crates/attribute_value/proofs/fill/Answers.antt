@@ -1,14 +1,12 @@
-use Prim.Native.Nat.{ℕ, ◌+◌, ◌*◌, ◌-◌, ◌≤◌, min}
-use mathlib.Core.Path.{◌≡◌, ap, ◌∙◌}
+use Prim.Native.Nat.{ℕ, ◌+◌, ◌*◌, ◌-◌, ◌≤◌}
+use mathlib.Core.Path.{◌≡◌, ◌∙◌}
 use mathlib.Core.List.{List}
 use native.Mathlib.Nat.{add-zero, min-eq_left, mul-le-mul_left}
 use native.Mathlib.Omega.{arith}
-use borrow.Author.Rules.{rules}
 use lib.ListN.{length, take, drop}
 use Rattle.le.specs.Le.{num}
 use Rattle.le.specs.Part.{num-drop}
-use Rattle.column.specs.Column.{same}
-use Rattle.column.specs.Fill.{Filling, begun, step-at, done}
+use Rattle.column.specs.Fill.{begun, step-at, done}
 use Rattle.attribute_value.specs.Laws.{first-bytes}
 use Rattle.attribute_value.proofs.fill.Goals as goal
 use Rattle.attribute_value.proofs.fill.Goals.{In-loop-i, Start}

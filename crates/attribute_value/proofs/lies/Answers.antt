@@ -1,15 +1,14 @@
-use Prim.Native.Nat.{ℕ, ◌+◌, ◌*◌, ◌-◌, ◌≤◌, ◌<◌}
+use Prim.Native.Nat.{ℕ, ◌-◌, ◌≤◌, ◌<◌}
 use mathlib.Core.Path.{◌≡◌, refl, sym, ◌∙◌}
 use mathlib.Core.Bool.{Bool, true, false}
 use mathlib.Core.List.{List}
 use native.Mathlib.Omega.{arith}
-use borrow.Author.Rules.{rules}
 use borrow.Author.Tests.{leb-true, leb-false}
 use lib.Dec.{leb}
 use lib.ListN.{length}
 use Rattle.attribute.specs.declared.Attribute.{Attribute}
 use Rattle.attribute_value.specs.Value.{value_at, lies}
-use Rattle.attribute_value.specs.Laws.{Lies, so_lies, lies-not}
+use Rattle.attribute_value.specs.Laws.{so_lies, lies-not}
 use Rattle.attribute_value.proofs.lies.Goals as goal
 
 -- by its end, where all else holds

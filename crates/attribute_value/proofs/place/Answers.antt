@@ -1,9 +1,6 @@
-use Prim.Native.Nat.{ℕ, ◌+◌, ◌*◌, ◌-◌, ◌≤◌}
 use mathlib.Core.Path.{◌≡◌, sym, ◌∙◌}
 use mathlib.Core.Bool.{true}
 use native.Mathlib.Omega.{arith}
-use borrow.Author.Rules.{rules}
-use borrow.Author.Tests.{not-true, not-false}
 use Rattle.attribute_value.specs.Value.{lies}
 use Rattle.attribute_value.specs.Laws.{Lies, lies_says, placed_at, not-placed}
 use Rattle.attribute_value.proofs.place.Goals as goal

@@ -1,5 +1,4 @@
 use mathlib.Core.Path.{◌≡◌, ap, sym, ◌∙◌}
-use borrow.Author.Rules.{rules}
 use Rattle.append.specs.declared.Appended.{Appended}
 use Rattle.append.specs.Append.{appended_of}
 use Rattle.capi_append.specs.Rows.{appended_row}

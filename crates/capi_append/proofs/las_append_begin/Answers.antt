@@ -1,5 +1,4 @@
 use mathlib.Core.Path.{◌≡◌, ap, sym, ◌∙◌}
-use borrow.Author.Rules.{rules}
 use Rattle.offer.specs.declared.Offer.{Offer}
 use Rattle.offer.specs.Offer.{offer_of}
 use Rattle.capi_append.specs.Rows.{sweep_numbers, begun_row}

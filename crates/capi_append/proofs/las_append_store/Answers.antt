@@ -1,7 +1,6 @@
 use mathlib.Core.Path.{◌≡◌, ap, sym, ◌∙◌}
 use mathlib.Core.List.{List, [], ◌∷◌}
 use Prim.Native.Nat.{ℕ}
-use borrow.Author.Rules.{rules}
 use Rattle.offer.specs.declared.Sweep.{Sweep}
 use Rattle.sectors.specs.declared.Stored.{Stored}
 use Rattle.sectors.specs.Sectors.{stored_of}

@@ -1,5 +1,4 @@
 use mathlib.Core.Path.{ap, ◌∙◌}
-use borrow.Author.Rules.{rules}
 use Rattle.sectors.specs.Sectors.{stores_of}
 use Rattle.capi_append.proofs.las_append_stores.Goals as goal
 

@@ -1,5 +1,4 @@
 use lib.ListN.{get_or}
-use borrow.Author.Rules.{rules}
 use Rattle.capi_append.specs.Rows.{sweep_from}
 use Rattle.capi_append.proofs.sweep_of.Goals as goal
 

@@ -1,5 +1,4 @@
 use mathlib.Core.Path.{ap, ◌∙◌}
-use borrow.Author.Rules.{rules}
 use Rattle.capi_ask.specs.Rows.{asked_row}
 use Rattle.capi_ask.proofs.las_convert_ask_old.Goals as goal
 

@@ -1,5 +1,4 @@
 use mathlib.Core.Path.{sym, ap, ◌∙◌}
-use borrow.Author.Rules.{rules}
 use Rattle.capi_ask.specs.Rows.{asked_row}
 use Rattle.capi_ask.proofs.tell.Goals as goal
 

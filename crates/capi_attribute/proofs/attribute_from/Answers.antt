@@ -1,5 +1,4 @@
 use mathlib.Core.Path.{refl}
-use borrow.Author.Rules.{rules}
 use Rattle.capi_attribute.specs.Rows.{attribute_from}
 use Rattle.capi_attribute.proofs.attribute_from.Goals as goal
 

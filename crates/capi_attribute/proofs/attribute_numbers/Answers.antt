@@ -1,5 +1,4 @@
 use mathlib.Core.Path.{refl}
-use borrow.Author.Rules.{rules}
 use Rattle.capi_attribute.specs.Rows.{attribute_numbers}
 use Rattle.capi_attribute.proofs.attribute_numbers.Goals as goal
 

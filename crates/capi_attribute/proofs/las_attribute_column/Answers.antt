@@ -1,5 +1,4 @@
 use mathlib.Core.Path.{ap, ◌∙◌}
-use borrow.Author.Rules.{rules}
 use Rattle.attribute.specs.declared.Attribute.{Attribute}
 use Rattle.attribute_value.specs.Many.{column_of}
 use Rattle.capi_column.specs.Rows.{told_of}

@@ -1,5 +1,4 @@
 use mathlib.Core.Path.{sym, ap, ◌∙◌}
-use borrow.Author.Rules.{rules}
 use Rattle.capi_attribute.specs.Rows.{found_row}
 use Rattle.capi_attribute.proofs.las_attribute_find.Goals as goal
 

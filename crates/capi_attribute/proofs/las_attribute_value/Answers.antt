@@ -1,7 +1,6 @@
 use Prim.Native.Nat.{ℕ}
 use mathlib.Core.Path.{◌≡◌, sym, ap, ◌∙◌}
 use mathlib.Core.List.{[], ◌∷◌}
-use borrow.Author.Rules.{rules}
 use Rattle.attribute.specs.declared.Attribute.{Attribute}
 use Rattle.attribute_value.specs.declared.Placed.{Placed}
 use Rattle.attribute_value.specs.Value.{bits_of}

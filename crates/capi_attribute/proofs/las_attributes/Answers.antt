@@ -1,5 +1,4 @@
 use mathlib.Core.Path.{sym, ap, ◌∙◌}
-use borrow.Author.Rules.{rules}
 use Rattle.capi_attribute.specs.Rows.{begun_row}
 use Rattle.capi_attribute.proofs.las_attributes.Goals as goal
 

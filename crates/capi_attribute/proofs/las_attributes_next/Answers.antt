@@ -1,7 +1,6 @@
 use mathlib.Core.Path.{◌≡◌, sym, ap, ◌∙◌}
 use mathlib.Core.Bool.{Bool, true, false, cond}
 use mathlib.Core.List.{[], ◌∷◌}
-use borrow.Author.Rules.{rules}
 use Rattle.attribute.specs.declared.Step.{Step}
 use Rattle.attribute.specs.Attributes.{next_of}
 use Rattle.capi_attribute.specs.Rows.{place_numbers, attribute_numbers, stepped, next_row}

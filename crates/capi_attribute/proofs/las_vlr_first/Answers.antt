@@ -1,6 +1,4 @@
 use mathlib.Core.Path.{sym, ap, ◌∙◌}
-use borrow.Author.Rules.{rules}
-use Rattle.first_vlr.specs.declared.Opened.{Opened}
 use Rattle.capi_attribute.specs.Rows.{first_by, first_row}
 use Rattle.capi_attribute.proofs.las_vlr_first.Goals as goal
 

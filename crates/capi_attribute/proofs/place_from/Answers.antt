@@ -1,5 +1,4 @@
 use mathlib.Core.Path.{refl}
-use borrow.Author.Rules.{rules}
 use Rattle.capi_attribute.specs.Rows.{place_from}
 use Rattle.capi_attribute.proofs.place_from.Goals as goal
 

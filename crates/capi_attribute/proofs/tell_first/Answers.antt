@@ -1,6 +1,5 @@
 use mathlib.Core.Path.{sym, ap, ◌∙◌}
 use mathlib.Core.List.{[], ◌∷◌}
-use borrow.Author.Rules.{rules}
 use Rattle.capi_attribute.specs.Rows.{first_by}
 use Rattle.capi_attribute.proofs.tell_first.Goals as goal
 

@@ -1,5 +1,4 @@
 use mathlib.Core.Path.{ap, ◌∙◌}
-use borrow.Author.Rules.{rules}
 use Rattle.capi_column.specs.Rows.{told_of}
 use Rattle.capi_column.proofs.channel.Goals as goal
 

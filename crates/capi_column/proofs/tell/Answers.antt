@@ -1,5 +1,4 @@
 use mathlib.Core.Path.{sym, ap, ◌∙◌}
-use borrow.Author.Rules.{rules}
 use Rattle.capi_column.specs.Rows.{filled_row}
 use Rattle.capi_column.proofs.tell.Goals as goal
 

@@ -1,5 +1,4 @@
 use mathlib.Core.Path.{sym, ap, ◌∙◌}
-use borrow.Author.Rules.{rules}
 use Rattle.capi_convert.specs.Rows.{converted_row}
 use Rattle.capi_convert.proofs.tell.Goals as goal
 

@@ -1,6 +1,5 @@
 use Prim.Native.Nat.{◌%◌}
 use Rattle.capi_cursor.specs.Numbers.{nth, plan_from, cursor_from}
-use borrow.Author.Rules.{rules}
 use Rattle.capi_cursor.proofs.cursor_from.Goals as goal
 
 pub returns : goal.returns

@@ -1,6 +1,5 @@
 use mathlib.Core.List.{[], ◌∷◌}
 use Rattle.capi_cursor.specs.Numbers.{cursor_numbers}
-use borrow.Author.Rules.{rules}
 use Rattle.capi_cursor.proofs.cursor_numbers.Goals as goal
 
 pub returns : goal.returns

@@ -3,7 +3,6 @@ use mathlib.Core.Bool.{Bool, true, false, cond}
 use Rattle.cursor.specs.declared.Step.{Step}
 use Rattle.cursor.specs.Cursor.{step_of}
 use Rattle.capi_cursor.specs.Numbers.{part_numbers, cursor_numbers, stepped, stepped_row}
-use borrow.Author.Rules.{rules}
 use Rattle.capi_cursor.proofs.las_cursor_next.Goals as goal
 
 -- A step by whether it has a part, and then the step that the call made.

@@ -1,6 +1,5 @@
 use mathlib.Core.Path.{sym, ap, ◌∙◌}
 use Rattle.capi_cursor.specs.Numbers.{started_row}
-use borrow.Author.Rules.{rules}
 use Rattle.capi_cursor.proofs.las_cursor_start.Goals as goal
 
 pub returns-in-At : goal.returns-in-At

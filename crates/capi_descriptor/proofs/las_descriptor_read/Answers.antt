@@ -1,5 +1,4 @@
 use mathlib.Core.Path.{sym, ap, ◌∙◌}
-use borrow.Author.Rules.{rules}
 use Rattle.capi_descriptor.specs.Rows.{Lent, read_by, read_row}
 use Rattle.capi_descriptor.proofs.las_descriptor_read.Goals as goal
 

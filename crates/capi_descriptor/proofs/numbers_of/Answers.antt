@@ -1,5 +1,4 @@
 use mathlib.Core.Path.{refl}
-use borrow.Author.Rules.{rules}
 use Rattle.capi_descriptor.specs.Rows.{numbers_of}
 use Rattle.capi_descriptor.proofs.numbers_of.Goals as goal
 

@@ -1,4 +1,3 @@
-use borrow.Author.Rules.{rules}
 use borrow.Author.Tests.{lt-ltb, le-ltb}
 use Rattle.capi_descriptor.specs.Rows.{type_from}
 use Rattle.capi_descriptor.proofs.type_from.Goals as goal

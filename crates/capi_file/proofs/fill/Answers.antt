@@ -1,11 +1,10 @@
 use Prim.Native.Nat.{◌+◌, ◌*◌, ◌≤◌}
 use mathlib.Core.Path.{◌≡◌, refl, ap, sym, ◌∙◌}
 use native.Mathlib.Omega.{arith}
-use borrow.Author.Rules.{rules}
 use lib.ListN.{length, set, length-set}
 use lib.Seq.{sets}
 use Rattle.lent.specs.Laws.{whole}
-use Rattle.cursor.specs.Cursor.{left_of, told_by}
+use Rattle.cursor.specs.Cursor.{left_of}
 use Rattle.cursor.specs.Count.{told-one, told-all}
 use Rattle.capi_file.specs.Parts.{numbers_of}
 use Rattle.capi_file.proofs.Stored.{length-numbers, told-first, turn, ended}

@@ -1,6 +1,5 @@
 use mathlib.Core.Path.{sym, ap, ◌∙◌}
 use mathlib.Core.List.{[], ◌∷◌}
-use borrow.Author.Rules.{rules}
 use Rattle.capi_file.specs.Rows.{checked_row}
 use Rattle.capi_file.proofs.las_file_check.Goals as goal
 

@@ -1,5 +1,4 @@
 use mathlib.Core.Path.{sym, ap, ◌∙◌}
-use borrow.Author.Rules.{rules}
 use Rattle.rewrite.specs.declared.Rewrote.{Rewrote}
 use Rattle.capi_file.specs.Rows.{rewrote_by, rewrote_row}
 use Rattle.capi_file.proofs.las_file_rewrite.Goals as goal

@@ -4,7 +4,6 @@ use Rattle.words.specs.Words.{format_word}
 use Rattle.outline.specs.Outline.{outline_of}
 use Rattle.file.specs.Points.{point_format}
 use Rattle.capi_file.specs.Rows.{format_by, format_row}
-use borrow.Author.Rules.{rules}
 use Rattle.capi_file.proofs.las_header_point_format.Goals as goal
 
 pub returns-in-Whole : goal.returns-in-Whole

@@ -1,5 +1,4 @@
 use mathlib.Core.Path.{◌≡◌, ap, sym, ◌∙◌}
-use borrow.Author.Rules.{rules}
 use Rattle.findings.specs.declared.Answer.{Answer}
 use Rattle.findings.specs.Answer.{findings_of}
 use Rattle.capi_findings.specs.Rows.{findings_row}

@@ -1,6 +1,5 @@
 use mathlib.Core.Path.{ap, ◌∙◌}
 use Rattle.capi_header.specs.Numbers.{lent_of}
-use borrow.Author.Rules.{rules}
 use Rattle.capi_header.proofs.las_header_default.Goals as goal
 
 pub returns : goal.returns

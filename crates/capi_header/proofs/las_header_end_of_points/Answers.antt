@@ -1,7 +1,6 @@
 use mathlib.Core.Path.{sym, ap, ◌∙◌}
 use Rattle.header.specs.Header.{end_of_points}
 use Rattle.capi_header.specs.Numbers.{told_by, end_by, end_row}
-use borrow.Author.Rules.{rules}
 use Rattle.capi_header.proofs.las_header_end_of_points.Goals as goal
 
 pub returns-in-Whole : goal.returns-in-Whole

@@ -2,7 +2,6 @@ use mathlib.Core.Path.{◌∙◌}
 use lib.ListN.{length}
 use Rattle.words.specs.Rows.{part_row}
 use Rattle.capi_header.specs.Numbers.{block_of, padding_part}
-use borrow.Author.Rules.{rules}
 use Rattle.capi_header.proofs.las_header_padding.Goals as goal
 
 pub returns : goal.returns

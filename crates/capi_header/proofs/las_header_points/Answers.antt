@@ -2,7 +2,6 @@ use mathlib.Core.Path.{sym, ap, ◌∙◌}
 use mathlib.Core.List.{[], ◌∷◌}
 use Rattle.header.specs.Header.{points_of}
 use Rattle.capi_header.specs.Numbers.{told_by, points_row}
-use borrow.Author.Rules.{rules}
 use Rattle.capi_header.proofs.las_header_points.Goals as goal
 
 pub returns-in-Whole : goal.returns-in-Whole

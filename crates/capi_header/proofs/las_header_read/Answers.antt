@@ -1,6 +1,5 @@
 use mathlib.Core.Path.{sym, ap, ◌∙◌}
 use Rattle.capi_header.specs.Numbers.{Lent, read_by, read_row}
-use borrow.Author.Rules.{rules}
 use Rattle.capi_header.proofs.las_header_read.Goals as goal
 
 pub returns-in-Whole : goal.returns-in-Whole

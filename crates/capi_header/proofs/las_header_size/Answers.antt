@@ -1,6 +1,5 @@
 use mathlib.Core.Path.{sym, ap, ◌∙◌}
 use Rattle.capi_header.specs.Numbers.{size_row}
-use borrow.Author.Rules.{rules}
 use Rattle.capi_header.proofs.las_header_size.Goals as goal
 
 pub returns-in-Is : goal.returns-in-Is

@@ -2,7 +2,6 @@ use mathlib.Core.Path.{◌∙◌}
 use mathlib.Core.List.{◌∷◌}
 use Rattle.header_write.specs.Bytes.{start_back}
 use Rattle.capi_header.specs.Numbers.{from, has_start, has_evlr, has_large, floats_of, listed, numbers_of}
-use borrow.Author.Rules.{rules}
 use Rattle.capi_header.proofs.numbers_of.Goals as goal
 
 -- Long since each of the 51 numbers comes from a call of its own: a name for each place, then the numbers in order.

@@ -1,6 +1,5 @@
 use mathlib.Core.Path.{sym, ap, ◌∙◌}
 use Rattle.capi_header.specs.Numbers.{end_by}
-use borrow.Author.Rules.{rules}
 use Rattle.capi_header.proofs.tell_end.Goals as goal
 
 pub returns-in-Is : goal.returns-in-Is

@@ -1,7 +1,6 @@
 use mathlib.Core.Bool.{not}
 use lib.Dec.{eqb}
 use Rattle.capi_header_write.specs.Numbers.{header_from}
-use borrow.Author.Rules.{rules}
 use Rattle.capi_header_write.proofs.header_from.Goals as goal
 
 -- Long since a header has 32 fields, each from a call of its own.

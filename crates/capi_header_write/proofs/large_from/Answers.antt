@@ -1,6 +1,5 @@
 use mathlib.Core.List.{[], ◌∷◌}
 use Rattle.capi_header_write.specs.Numbers.{large_from}
-use borrow.Author.Rules.{rules}
 use Rattle.capi_header_write.proofs.large_from.Goals as goal
 
 pub returns : goal.returns

@@ -3,7 +3,6 @@ use Rattle.header.specs.declared.Header.{Header}
 use Rattle.header_write.specs.Wrote.{wrote_of}
 use Rattle.words.specs.Rows.{wrote_row, written_row}
 use Rattle.capi_header_write.specs.Numbers.{header_from}
-use borrow.Author.Rules.{rules}
 use Rattle.capi_header_write.proofs.las_header_write.Goals as goal
 
 pub returns-in-Bytes : goal.returns-in-Bytes

@@ -1,6 +1,5 @@
 use mathlib.Core.Path.{ap, ◌∙◌}
 use Rattle.le.specs.Real.{f64_of}
-use borrow.Author.Rules.{rules}
 use Rattle.capi_header_write.proofs.nan.Goals as goal
 
 pub returns : goal.returns

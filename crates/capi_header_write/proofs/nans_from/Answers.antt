@@ -1,5 +1,4 @@
 use Rattle.capi_header_write.specs.Numbers.{nans_from}
-use borrow.Author.Rules.{rules}
 use Rattle.capi_header_write.proofs.nans_from.Goals as goal
 
 pub returns : goal.returns

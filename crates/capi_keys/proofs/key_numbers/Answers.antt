@@ -1,5 +1,4 @@
 use mathlib.Core.Path.{ap, sym}
-use borrow.Author.Rules.{rules}
 use Rattle.capi_keys.specs.Rows.{key_numbers}
 use Rattle.capi_keys.proofs.key_numbers.Goals as goal
 

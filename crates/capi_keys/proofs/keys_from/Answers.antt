@@ -1,5 +1,4 @@
 use mathlib.Core.Path.{refl}
-use borrow.Author.Rules.{rules}
 use Rattle.capi_keys.specs.Rows.{keys_from}
 use Rattle.capi_keys.proofs.keys_from.Goals as goal
 

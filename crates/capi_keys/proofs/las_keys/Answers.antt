@@ -1,5 +1,4 @@
 use mathlib.Core.Path.{ap, sym, ◌∙◌}
-use borrow.Author.Rules.{rules}
 use Rattle.capi_keys.specs.Rows.{opened_row}
 use Rattle.capi_keys.proofs.las_keys.Goals as goal
 

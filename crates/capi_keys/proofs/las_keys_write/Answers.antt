@@ -1,7 +1,6 @@
 use mathlib.Core.Path.{◌≡◌, ap, sym, ◌∙◌}
 use mathlib.Core.List.{List}
 use Prim.Native.Nat.{ℕ}
-use borrow.Author.Rules.{rules}
 use Rattle.words.specs.Rows.{wrote_row, written_row}
 use Rattle.lent.specs.declared.Wrote.{Wrote}
 use Rattle.directory_write.specs.Written.{written_of}

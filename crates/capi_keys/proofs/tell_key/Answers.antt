@@ -1,6 +1,5 @@
 use mathlib.Core.Path.{ap, sym, ◌∙◌}
 use mathlib.Core.Bool.{true}
-use borrow.Author.Rules.{rules}
 use Rattle.capi_keys.specs.Rows.{key_row}
 use Rattle.capi_keys.proofs.tell_key.Goals as goal
 

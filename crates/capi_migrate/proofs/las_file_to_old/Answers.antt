@@ -1,5 +1,4 @@
 use mathlib.Core.Path.{ap, ◌∙◌}
-use borrow.Author.Rules.{rules}
 use Rattle.capi_convert.specs.Rows.{told_of}
 use Rattle.capi_migrate.proofs.las_file_to_old.Goals as goal
 

@@ -1,5 +1,4 @@
 use mathlib.Core.Path.{◌≡◌, ap, sym, ◌∙◌}
-use borrow.Author.Rules.{rules}
 use Rattle.reclassify.specs.declared.Reclassified.{Reclassified}
 use Rattle.reclassify.specs.Reclassify.{reclassified_of}
 use Rattle.capi_reclassify.specs.Rows.{reclassified_row}

@@ -1,5 +1,4 @@
 use mathlib.Core.Path.{◌≡◌, ap, sym, ◌∙◌}
-use borrow.Author.Rules.{rules}
 use Rattle.reclassify.specs.declared.Asked.{Asked}
 use Rattle.reclassify.specs.Reclassify.{asked_of}
 use Rattle.capi_reclassify.specs.Rows.{change_numbers, asked_row}

@@ -1,7 +1,6 @@
 use mathlib.Core.Path.{sym, ◌∙◌}
 use native.Mathlib.Omega.{arith}
 use lib.ListN.{replicate}
-use borrow.Author.Rules.{rules}
 use Rattle.capi_sheet.specs.Numbers.{part_from}
 use Rattle.capi_sheet.proofs.Laid.{over, part_length}
 use Rattle.capi_sheet.proofs.classes_from.Goals as goal

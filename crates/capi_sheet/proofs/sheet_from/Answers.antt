@@ -1,4 +1,3 @@
-use borrow.Author.Rules.{rules}
 use lib.ListN.{get_or}
 use Rattle.capi_sheet.specs.Numbers.{sheet_from}
 use Rattle.capi_sheet.proofs.sheet_from.Goals as goal

@@ -1,6 +1,5 @@
 use mathlib.Core.Path.{ap, ◌∙◌}
 use Rattle.capi_point.specs.Numbers.{numbers_of}
-use borrow.Author.Rules.{rules}
 use Rattle.capi_strict.proofs.las_point_default.Goals as goal
 
 pub returns : goal.returns

@@ -1,7 +1,6 @@
 use mathlib.Core.Path.{sym, ap, ◌∙◌}
 use Rattle.strict.specs.Fit.{fit_of}
 use Rattle.capi_strict.specs.Rows.{fit_row}
-use borrow.Author.Rules.{rules}
 use Rattle.capi_strict.proofs.las_strict_check.Goals as goal
 
 pub returns-in-Fits : goal.returns-in-Fits

@@ -1,7 +1,6 @@
 use mathlib.Core.Path.{ap, ◌∙◌}
 use Rattle.strict.specs.Upgrade.{upgraded_of}
 use Rattle.capi_point.specs.Numbers.{numbers_of}
-use borrow.Author.Rules.{rules}
 use Rattle.capi_strict.proofs.las_strict_upgraded.Goals as goal
 
 pub returns : goal.returns

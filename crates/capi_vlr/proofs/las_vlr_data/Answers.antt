@@ -2,7 +2,6 @@ use mathlib.Core.Path.{◌∙◌}
 use lib.ListN.{length}
 use Rattle.words.specs.Rows.{part_row}
 use Rattle.capi_vlr.specs.Rows.{data_part}
-use borrow.Author.Rules.{rules}
 use Rattle.capi_vlr.proofs.las_vlr_data.Goals as goal
 
 pub returns : goal.returns

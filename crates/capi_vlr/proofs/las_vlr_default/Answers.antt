@@ -1,6 +1,5 @@
 use mathlib.Core.Path.{ap, ◌∙◌}
 use Rattle.capi_vlr.specs.Rows.{lent_of}
-use borrow.Author.Rules.{rules}
 use Rattle.capi_vlr.proofs.las_vlr_default.Goals as goal
 
 pub returns : goal.returns

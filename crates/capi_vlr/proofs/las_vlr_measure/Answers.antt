@@ -1,6 +1,5 @@
 use mathlib.Core.Path.{sym, ap, ◌∙◌}
 use Rattle.capi_vlr.specs.Rows.{extent_row}
-use borrow.Author.Rules.{rules}
 use Rattle.capi_vlr.proofs.las_vlr_measure.Goals as goal
 
 pub returns-in-Bytes : goal.returns-in-Bytes

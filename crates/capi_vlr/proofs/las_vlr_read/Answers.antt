@@ -4,7 +4,6 @@ use mathlib.Core.Path.{sym, ap, ◌∙◌}
 use Rattle.vlr.specs.declared.Extent.{Extent}
 use Rattle.vlr.specs.declared.VlrRead.{VlrRead}
 use Rattle.capi_vlr.specs.Rows.{told_of, read_row}
-use borrow.Author.Rules.{rules}
 use Rattle.capi_vlr.proofs.las_vlr_read.Goals as goal
 
 pub returns-in-Bytes : goal.returns-in-Bytes

@@ -2,7 +2,6 @@ use Prim.Native.Nat.{ℕ}
 use mathlib.Core.Path.{sym, ap, ◌∙◌}
 use mathlib.Core.List.{[], ◌∷◌}
 use Rattle.capi_vlr.specs.Rows.{stated_row}
-use borrow.Author.Rules.{rules}
 use Rattle.capi_vlr.proofs.las_vlr_stated.Goals as goal
 
 pub returns-in-Is : goal.returns-in-Is

@@ -5,7 +5,6 @@ use Rattle.vlr.specs.declared.Vlr.{Vlr}
 use Rattle.vlr.specs.Vlr.{written_of}
 use Rattle.words.specs.Rows.{wrote_row, written_row}
 use Rattle.capi_vlr.specs.Rows.{overlong, write_row}
-use borrow.Author.Rules.{rules}
 use Rattle.capi_vlr.proofs.las_vlr_write.Goals as goal
 use Rattle.capi_vlr.proofs.las_vlr_write.Goals.{After-write_to, Else-overlong}
 

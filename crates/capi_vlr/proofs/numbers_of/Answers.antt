@@ -1,5 +1,4 @@
 use Rattle.capi_vlr.specs.Rows.{numbers_of}
-use borrow.Author.Rules.{rules}
 use Rattle.capi_vlr.proofs.numbers_of.Goals as goal
 
 pub returns : goal.returns

@@ -1,5 +1,4 @@
 use Rattle.capi_vlr.specs.Rows.{vlr_from}
-use borrow.Author.Rules.{rules}
 use Rattle.capi_vlr.proofs.vlr_from.Goals as goal
 
 pub returns : goal.returns

@@ -1,5 +1,4 @@
 use mathlib.Core.List.{[], ◌∷◌}
-use borrow.Author.Rules.{rules}
 use Rattle.capi_walker.specs.Rows.{place_with}
 use Rattle.capi_walker.proofs.numbers_with.Goals as goal
 

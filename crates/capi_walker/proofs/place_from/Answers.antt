@@ -1,5 +1,4 @@
 use lib.ListN.{get_or}
-use borrow.Author.Rules.{rules}
 use Rattle.walker.specs.declared.Start.TheVariants.{Accepted}
 use Rattle.capi_walker.specs.Rows.{place_from}
 use Rattle.capi_walker.proofs.place_from.Goals as goal

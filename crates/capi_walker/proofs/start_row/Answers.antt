@@ -1,5 +1,4 @@
 use mathlib.Core.Path.{sym, ap, ◌∙◌}
-use borrow.Author.Rules.{rules}
 use Rattle.capi_walker.specs.Rows.{start_row}
 use Rattle.capi_walker.proofs.start_row.Goals as goal
 

@@ -1,10 +1,7 @@
-use Prim.Native.Nat.{◌-◌}
 use mathlib.Core.Path.{ap}
 use native.Mathlib.Omega.{arith}
-use borrow.Author.Rules.{rules}
 use Rattle.le.specs.declared.float.F64.{F64}
-use Rattle.column.specs.Column.{real}
-use Rattle.column.specs.Fill.{Filling, Ahead, begun, ahead, step, done}
+use Rattle.column.specs.Fill.{Ahead, begun, ahead, step, done}
 use Rattle.column.proofs.fill_f64.Goals as goal
 use Rattle.column.proofs.fill_f64.Goals.{In-loop-i}
 

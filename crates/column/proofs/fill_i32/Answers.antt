@@ -1,11 +1,8 @@
 use Prim.Native.Nat.{◌+◌, ◌-◌}
 use native.Mathlib.Omega.{arith}
-use borrow.Author.Rules.{rules}
 use lib.ListN.{drop}
-use mir.Syntax.{w32}
-use mir.Val.{to_z}
 use Rattle.le.specs.Laws.{num-lt, bytes_take, bytes_drop}
-use Rattle.column.specs.Fill.{stored, Filling, Ahead, begun, ahead, step, done}
+use Rattle.column.specs.Fill.{stored, Ahead, begun, ahead, step, done}
 use Rattle.column.proofs.fill_i32.Goals as goal
 use Rattle.column.proofs.fill_i32.Goals.{In-loop-i}
 

@@ -1,11 +1,7 @@
-use Prim.Native.Nat.{◌+◌, ◌-◌}
-use native.Mathlib.Omega.{arith}
-use borrow.Author.Rules.{rules}
-use lib.ListN.{drop}
+use Prim.Native.Nat.{◌-◌}
 use mir.Syntax.{w32}
 use mir.Val.{to_z}
-use Rattle.le.specs.Laws.{num-lt, bytes_take, bytes_drop}
-use Rattle.column.specs.Fill.{stored, Filling, Ahead, begun, ahead, step, done}
+use Rattle.column.specs.Fill.{Filling}
 use Rattle.column.proofs.fill_i32.Given as goal
 
 -- The loop goes by `Filling`, the one law of every width (specs/Fill.antt).

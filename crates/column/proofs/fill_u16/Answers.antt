@@ -1,8 +1,5 @@
-use Prim.Native.Nat.{◌-◌}
 use native.Mathlib.Omega.{arith}
-use borrow.Author.Rules.{rules}
-use Rattle.column.specs.Column.{same}
-use Rattle.column.specs.Fill.{Filling, Ahead, begun, ahead, step, done}
+use Rattle.column.specs.Fill.{Ahead, begun, ahead, step, done}
 use Rattle.column.proofs.fill_u16.Goals as goal
 use Rattle.column.proofs.fill_u16.Goals.{In-loop-i}
 

@@ -1,8 +1,6 @@
 use Prim.Native.Nat.{◌-◌}
-use native.Mathlib.Omega.{arith}
-use borrow.Author.Rules.{rules}
 use Rattle.column.specs.Column.{same}
-use Rattle.column.specs.Fill.{Filling, Ahead, begun, ahead, step, done}
+use Rattle.column.specs.Fill.{Filling}
 use Rattle.column.proofs.fill_u64.Given as goal
 
 -- The loop goes by `Filling`, the one law of every width (specs/Fill.antt).

@@ -1,6 +1,5 @@
 use mathlib.Core.Path.{◌≡◌, refl, sym, ap, ◌∙◌}
 use mathlib.Core.Bool.{true}
-use borrow.Author.Rules.{rules}
 use Rattle.format.specs.declared.Format.{Format}
 use Rattle.column.specs.declared.Axis as axes
 use Rattle.column.specs.declared.Axis.TheVariants.{X, Y, Z}

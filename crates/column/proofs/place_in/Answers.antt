@@ -1,7 +1,6 @@
 use Prim.Native.Nat.{ℕ, ◌+◌, ◌≤◌}
 use mathlib.Core.Path.{◌≡◌, sym, ap, ◌∙◌}
 use native.Mathlib.Omega.{arith}
-use borrow.Author.Rules.{rules}
 use Rattle.format.specs.declared.Format.{Format}
 use Rattle.format.specs.Laws.{fixed_le}
 use Rattle.layout.specs.Placed.{Placed, placed}

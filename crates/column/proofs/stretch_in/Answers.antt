@@ -3,7 +3,6 @@ use mathlib.Core.Path.{◌≡◌, sym, ap, subst, ◌∙◌}
 use mathlib.Core.Bool.{true}
 use native.Mathlib.Nat.{mul-le-mul_right}
 use native.Mathlib.Omega.{arith}
-use borrow.Author.Rules.{rules}
 use Rattle.format.specs.Fields.{record_bytes}
 use Rattle.layout.specs.Placed.{laid}
 use Rattle.column.specs.declared.Filled.TheVariants.{Entries}

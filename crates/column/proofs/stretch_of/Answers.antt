@@ -1,6 +1,5 @@
 use mathlib.Core.Path.{◌≡◌, sym, ap, ◌∙◌}
 use native.Mathlib.Omega.{arith}
-use borrow.Author.Rules.{rules}
 use Rattle.walker.specs.declared.Start.{Start}
 use Rattle.walker.specs.declared.Place.{Place}
 use Rattle.column.specs.Column.{stretch_by, stretch_of}

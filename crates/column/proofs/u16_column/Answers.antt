@@ -1,4 +1,3 @@
-use borrow.Author.Rules.{rules}
 use lib.ListN.{length}
 use Rattle.column.specs.declared.Column.TheVariants.{Channel}
 use Rattle.column.specs.Column.{same}

@@ -3,7 +3,6 @@ use mathlib.Core.Path.{◌≡◌, ap, ◌∙◌}
 use mathlib.Core.List.{List}
 use native.Mathlib.Nat.{add-zero}
 use native.Mathlib.Omega.{arith}
-use borrow.Author.Rules.{rules}
 use lib.IntN.{ℤ}
 use lib.ListN.{length, take, drop}
 use mir.Syntax.{w32}
@@ -12,7 +11,7 @@ use Rattle.le.specs.Le.{num, Bytes}
 use Rattle.le.specs.Laws.{num-lt, num-part}
 use Rattle.column.specs.Column.{Lie}
 use Rattle.column.specs.Fill.{stored, Filling, Ahead, begun, ahead, step-at, done}
-use Rattle.column_xyz.proofs.fill.Invariants.{Third, Filling3}
+use Rattle.column_xyz.proofs.fill.Invariants.{Third}
 use Rattle.column_xyz.proofs.fill.Goals as goal
 use Rattle.column_xyz.proofs.fill.Goals.{In-loop-i}
 

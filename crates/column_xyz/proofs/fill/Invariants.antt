@@ -1,17 +1,9 @@
-use Prim.Native.Nat.{ℕ, ◌+◌, ◌-◌, ◌≤◌}
-use mathlib.Core.Path.{◌≡◌, ap, ◌∙◌}
+use Prim.Native.Nat.{ℕ, ◌+◌, ◌-◌}
 use mathlib.Core.List.{List}
-use native.Mathlib.Nat.{add-zero}
-use native.Mathlib.Omega.{arith}
-use borrow.Author.Rules.{rules}
 use lib.IntN.{ℤ}
-use lib.ListN.{length, take, drop}
 use mir.Syntax.{w32}
-use mir.Val.{to_z, of_z}
-use Rattle.le.specs.Le.{num, Bytes}
-use Rattle.le.specs.Laws.{num-lt, num-part}
-use Rattle.column.specs.Column.{Lie}
-use Rattle.column.specs.Fill.{stored, Filling, Ahead, begun, ahead, step-at, done}
+use mir.Val.{to_z}
+use Rattle.column.specs.Fill.{Filling}
 use Rattle.column_xyz.proofs.fill.Given as goal
 
 -- Three loops side by side, each by `Filling`, the one law of every column (column/specs/Fill.antt).

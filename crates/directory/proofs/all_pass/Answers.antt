@@ -1,9 +1,5 @@
-use Prim.Native.Nat.{ℕ, ◌≤◌, ◌<◌, ◌-◌}
-use mathlib.Core.Path.{◌≡◌, sym, ◌∙◌}
-use mathlib.Core.Bool.{true}
+use mathlib.Core.Path.{sym, ◌∙◌}
 use native.Mathlib.Omega.{arith}
-use borrow.Author.Rules.{rules}
-use borrow.Author.Tests.{not-true, not-false}
 use Rattle.directory.specs.Directory.{passes}
 use Rattle.directory.specs.Laws.{every-passes, one_fails, one_more}
 use Rattle.directory.proofs.all_pass.Goals as goal

@@ -1,11 +1,7 @@
 use Prim.Native.Nat.{ℕ, ◌≤◌, ◌<◌, ◌-◌}
-use mathlib.Core.Path.{◌≡◌, sym, ◌∙◌}
+use mathlib.Core.Path.{◌≡◌}
 use mathlib.Core.Bool.{true}
-use native.Mathlib.Omega.{arith}
-use borrow.Author.Rules.{rules}
-use borrow.Author.Tests.{not-true, not-false}
 use Rattle.directory.specs.Directory.{passes}
-use Rattle.directory.specs.Laws.{every-passes, one_fails, one_more}
 use Rattle.directory.proofs.all_pass.Given as goal
 
 -- The invariant: every entry so far passes.

@@ -1,4 +1,3 @@
-use borrow.Author.Rules.{rules}
 use Rattle.directory.specs.Directory.{entry_of}
 use Rattle.directory.proofs.entry_at.Goals as goal
 

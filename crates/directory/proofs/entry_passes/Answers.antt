@@ -1,4 +1,3 @@
-use borrow.Author.Rules.{rules}
 use Rattle.directory.specs.Directory.{passes}
 use Rattle.directory.proofs.entry_passes.Goals as goal
 

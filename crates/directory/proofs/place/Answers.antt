@@ -1,9 +1,7 @@
-use Prim.Native.Nat.{◌≤◌, ◌-◌}
 use mathlib.Core.Path.{◌≡◌, sym, ◌∙◌}
 use native.Mathlib.Nat.{sub-zero}
 use native.Mathlib.Omega.{arith}
-use borrow.Author.Rules.{rules}
-use Rattle.directory.specs.Directory.{key_of, place_from, place_of}
+use Rattle.directory.specs.Directory.{key_of, place_of}
 use Rattle.directory.specs.Laws.{found, passed, ended}
 use Rattle.directory.proofs.place.Goals as goal
 

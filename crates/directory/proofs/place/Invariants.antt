@@ -1,10 +1,6 @@
 use Prim.Native.Nat.{◌≤◌, ◌-◌}
-use mathlib.Core.Path.{◌≡◌, sym, ◌∙◌}
-use native.Mathlib.Nat.{sub-zero}
-use native.Mathlib.Omega.{arith}
-use borrow.Author.Rules.{rules}
+use mathlib.Core.Path.{◌≡◌}
 use Rattle.directory.specs.Directory.{key_of, place_from, place_of}
-use Rattle.directory.specs.Laws.{found, passed, ended}
 use Rattle.directory.proofs.place.Given as goal
 
 -- The invariant: what is still to be searched decides.

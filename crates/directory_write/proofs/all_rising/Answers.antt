@@ -1,6 +1,4 @@
-use Prim.Native.Nat.{ℕ, ◌≤◌, ◌<◌, ◌-◌}
 use mathlib.Core.Path.{◌≡◌, sym}
-use mathlib.Core.Bool.{true}
 use native.Mathlib.Omega.{arith}
 use Rattle.directory.specs.Directory.{rising_at}
 use Rattle.directory.specs.Laws.{every-passes, one_fails, one_more, rises, falls}

@@ -1,9 +1,7 @@
 use Prim.Native.Nat.{ℕ, ◌≤◌, ◌<◌, ◌-◌}
-use mathlib.Core.Path.{◌≡◌, sym}
+use mathlib.Core.Path.{◌≡◌}
 use mathlib.Core.Bool.{true}
-use native.Mathlib.Omega.{arith}
 use Rattle.directory.specs.Directory.{rising_at}
-use Rattle.directory.specs.Laws.{every-passes, one_fails, one_more, rises, falls}
 use Rattle.directory_write.specs.Written.{given_key}
 use Rattle.directory_write.proofs.all_rising.Given as goal
 

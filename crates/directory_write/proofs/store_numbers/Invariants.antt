@@ -1,14 +1,8 @@
 use Prim.Native.Nat.{◌+◌, ◌*◌, ◌≤◌, ◌-◌}
-use mathlib.Core.Path.{◌≡◌, refl, ap, sym, ◌∙◌}
-use mathlib.Core.List.{List, []}
-use native.Mathlib.Omega.{arith}
-use borrow.Author.Rules.{rules}
-use Prim.Native.Nat.{ℕ}
-use lib.ListN.{length, drop, get_or, drop_of_length-le}
-use lib.Seq.{sets, length-sets}
-use Rattle.le.specs.Le.{bytes}
+use mathlib.Core.Path.{◌≡◌}
+use lib.ListN.{length, drop}
+use lib.Seq.{sets}
 use Rattle.directory_write.specs.Written.{number_bytes}
-use Rattle.directory_write.specs.Laws.{next-number}
 use Rattle.directory_write.proofs.store_numbers.Given as goal
 
 -- The invariant is over what is left: the numbers from here on, stored from here on, leave what is to be left.

@@ -1,19 +1,7 @@
-use Prim.Native.Nat.{ℕ, ◌+◌, ◌-◌, ◌≤◌, ◌<◌}
-use mathlib.Core.Path.{◌≡◌, refl, ap, sym, ◌∙◌}
-use mathlib.Core.Bool.{Bool, false}
-use mathlib.Core.List.{List}
-use native.Mathlib.Nat.{add-zero}
-use native.Mathlib.Omega.{arith}
-use borrow.Author.Rules.{rules}
-use borrow.Author.Tests.{not-true, not-false}
-use lib.ListN.{length, drop, length-drop}
-use Rattle.vlr.specs.declared.Extent.{Extent}
-use Rattle.vlr.specs.declared.Extent.TheVariants.{Bytes, Refused}
-use Rattle.vlr.specs.Vlr.{extent_of}
-use Rattle.vlr.specs.Laws.{Whole, accepted}
-use Rattle.first_vlr.specs.declared.FirstVlr.TheVariants.{Nothing}
-use Rattle.first_vlr.specs.First.{is_of, first_from}
-use Rattle.first_vlr.specs.Laws.{rest_from, cut_off, is_it, not_it}
+use Prim.Native.Nat.{◌+◌, ◌≤◌}
+use mathlib.Core.Path.{◌≡◌}
+use lib.ListN.{length, drop}
+use Rattle.first_vlr.specs.First.{first_from}
 use Rattle.first_vlr.proofs.first_in.Given as goal
 
 -- The invariant: what is still to be searched decides.

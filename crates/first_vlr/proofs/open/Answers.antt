@@ -1,5 +1,4 @@
 use mathlib.Core.Path.{◌≡◌, sym, ap, ◌∙◌}
-use borrow.Author.Rules.{rules}
 use Rattle.header.specs.declared.HeaderRead.{HeaderRead}
 use Rattle.outline.specs.Outline.{outline_of}
 use Rattle.cursor.specs.Parts.{outline_in}

@@ -1,4 +1,3 @@
-use borrow.Author.Rules.{rules}
 use Rattle.keys.specs.Keys.{found_of}
 use Rattle.keys.proofs.find.Goals as goal
 

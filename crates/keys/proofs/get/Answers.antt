@@ -1,5 +1,4 @@
 use mathlib.Core.Path.{◌≡◌, sym, ap, ◌∙◌}
-use borrow.Author.Rules.{rules}
 use Rattle.keys.specs.declared.Opened.{Opened}
 use Rattle.keys.specs.declared.KeyAt.{KeyAt}
 use Rattle.keys.specs.Keys.{value_by, got_by, got_of}

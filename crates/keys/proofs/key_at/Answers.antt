@@ -1,5 +1,4 @@
 use native.Mathlib.Omega.{arith}
-use borrow.Author.Rules.{rules}
 use borrow.Author.Tests.{le-leb, lt-leb}
 use Rattle.keys.specs.Keys.{key_at_of}
 use Rattle.keys.proofs.key_at.Goals as goal

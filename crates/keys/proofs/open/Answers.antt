@@ -1,5 +1,4 @@
 use mathlib.Core.Path.{◌≡◌, sym, ap, ◌∙◌}
-use borrow.Author.Rules.{rules}
 use Rattle.first_vlr.specs.declared.Opened.{Opened}
 use Rattle.keys.specs.Keys.{opened_file, opened_of}
 use Rattle.keys.proofs.open.Goals as goal

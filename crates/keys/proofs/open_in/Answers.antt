@@ -2,7 +2,6 @@ use mathlib.Core.Path.{◌≡◌, sym, ap, ◌∙◌}
 use Prim.Native.Nat.{ℕ}
 use mathlib.Core.List.{List}
 use lib.ListN.{take, drop}
-use borrow.Author.Rules.{rules}
 use Rattle.first_vlr.specs.declared.FirstVlr.{FirstVlr}
 use Rattle.directory.specs.declared.Judged.{Judged}
 use Rattle.directory.specs.Directory.{judged_of}

@@ -1,6 +1,5 @@
 use Prim.Native.Nat.{◌+◌, ◌≤◌}
 use native.Mathlib.Omega.{arith}
-use borrow.Author.Rules.{rules}
 use borrow.Author.Tests.{le-leb, lt-leb}
 use Rattle.directory.specs.Directory.{bytes_of}
 use Rattle.directory.specs.Laws.{bytes-add}

@@ -1,4 +1,3 @@
-use borrow.Author.Rules.{rules}
 use Rattle.keys.specs.Keys.{projection_of}
 use Rattle.keys.proofs.projection.Goals as goal
 

@@ -1,5 +1,4 @@
 use mathlib.Core.Path.{ap, sym}
-use borrow.Author.Rules.{rules}
 use Rattle.keys.specs.Keys.{target_of}
 use Rattle.keys.proofs.target.Goals as goal
 

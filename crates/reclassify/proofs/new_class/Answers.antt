@@ -1,4 +1,3 @@
-use borrow.Author.Rules.{rules}
 use Rattle.reclassify.specs.declared.Asked.TheVariants.{Byte}
 use Rattle.reclassify.proofs.new_class.Goals as goal
 

@@ -1,5 +1,4 @@
 use Prim.Native.Nat.{◌+◌, ◌*◌, ◌/◌, ◌%◌}
-use borrow.Author.Rules.{rules}
 use Rattle.reclassify.specs.declared.Asked.TheVariants.{Byte}
 use Rattle.reclassify.proofs.old_class.Goals as goal
 

@@ -1,5 +1,4 @@
 use mathlib.Core.Path.{◌≡◌, ap, sym, ◌∙◌}
-use borrow.Author.Rules.{rules}
 use Rattle.reclassify.specs.declared.Asked.{Asked}
 use Rattle.reclassify.specs.declared.Reclassified.TheVariants.{Was}
 use Rattle.reclassify.specs.Reclassify.{reclassified_by, reclassified_of}

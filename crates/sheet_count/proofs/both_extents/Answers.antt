@@ -1,4 +1,3 @@
-use borrow.Author.Rules.{rules}
 use Rattle.sheet_count.specs.Count.{both_extents}
 use Rattle.sheet_count.proofs.both_extents.Goals as goal
 

@@ -1,5 +1,4 @@
 use mathlib.Core.Path.{◌∙◌}
-use borrow.Author.Rules.{rules}
 use mir.Syntax.{w32}
 use Rattle.le.proofs.Twos.{kept}
 use Rattle.sheet_count.specs.Count.{only, extent_in}

@@ -1,5 +1,4 @@
 use native.Mathlib.Omega.{arith}
-use borrow.Author.Rules.{rules}
 use Rattle.point.specs.Read.{flags_at}
 use Rattle.sheet_count.proofs.return_in.Goals as goal
 

@@ -1,9 +1,8 @@
-use Prim.Native.Nat.{ℕ, ◌+◌, ◌-◌, ◌*◌, ◌^◌, ◌≤◌, ◌<◌}
+use Prim.Native.Nat.{ℕ, ◌+◌, ◌*◌, ◌^◌, ◌≤◌, ◌<◌}
 use native.Mathlib.Nat.{mul-le-mul_right}
 use native.Mathlib.Omega.{arith}
-use borrow.Author.Rules.{rules}
 use lib.ListN.{length, get_or}
-use Rattle.sheet_count.proofs.Turn.{Counting, begun, stands, class-room, return_room, step, done, nothing}
+use Rattle.sheet_count.proofs.Turn.{begun, stands, class-room, return_room, step, done, nothing}
 use Rattle.sheet_count.proofs.tally_at.Goals as goal
 use Rattle.sheet_count.proofs.tally_at.Goals.{Else-n-eq0, In-loop-i, Start}
 

@@ -1,9 +1,5 @@
-use Prim.Native.Nat.{ℕ, ◌+◌, ◌-◌, ◌*◌, ◌^◌, ◌≤◌, ◌<◌}
-use native.Mathlib.Nat.{mul-le-mul_right}
-use native.Mathlib.Omega.{arith}
-use borrow.Author.Rules.{rules}
-use lib.ListN.{length, get_or}
-use Rattle.sheet_count.proofs.Turn.{Counting, begun, stands, class-room, return_room, step, done, nothing}
+use Prim.Native.Nat.{◌-◌}
+use Rattle.sheet_count.proofs.Turn.{Counting}
 use Rattle.sheet_count.proofs.tally_at.Given as goal
 
 -- The loop goes by `Counting`, a record more in each turn (proofs/Turn.antt).
