@@ -3,6 +3,7 @@ pub mod Angle
 pub mod Table
 -- laws
 pub mod Sign
+pub mod Same
 pub mod Ranks
 -- theorems
 pub mod Theorems

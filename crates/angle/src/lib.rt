@@ -4,10 +4,12 @@
 
 ghost use Rattle.std.specs.Prelude.{◌≡◌, pos, ◌*ℤ◌};
 ghost use Rattle.angle.specs.Angle.{nearest_rank, held, scaled_of, to_rank, to_scaled, to_degrees, from_degrees, same_angle, eq_z};
+ghost use Rattle.angle.specs.declared.ScanAngle.TheVariants.{Rank};
+ghost use Rattle.angle.specs.Same.{same-equivalence};
+ghost use Rattle.std.specs.Cmp.{partial_equiv_from_equiv};
 ghost use Rattle.angle.specs.Table.{scaled_table, entry_of, to_scaled_in};
 ghost use Rattle.std.specs.Float.Ieee.{to_signed};
 
-use le::signed;
 use table::SCALED;
 
 mod table;
@@ -58,7 +60,7 @@ pub fn scaled_table() -> [i16; 256]
 fn entry(table: &[i16; 256], r: i8) -> i16
     ensures { result ≡ entry_of table.now r }
 {
-    let place = ((signed::bits8(r) as usize) + 128) % 256;
+    let place = ((r.cast_unsigned() as usize) + 128) % 256;
     table[place]
 }
 
@@ -145,27 +147,33 @@ impl ScanAngle {
     {
         ScanAngle::Scaled(whole16(n / 0.006))
     }
+}
 
-    // Whether two angles are the same: a rank r is a scaled n exactly when 500r = 3n.
-    pub fn eq(self, other: ScanAngle) -> bool
-        ensures { result ≡ same_angle self other }
-    {
-        match self {
-            ScanAngle::Rank(r) => match other {
-                ScanAngle::Rank(q) => r == q,
-                ScanAngle::Scaled(n) => same(r, n),
-            },
-            ScanAngle::Scaled(n) => match other {
-                ScanAngle::Rank(r) => same(r, n),
-                ScanAngle::Scaled(m) => n == m,
-            },
+// A rank r is a scaled n exactly when 500r = 3n.
+impl PartialEq for ScanAngle {
+    ghost eq = { same_angle };
+
+    ghost laws = { partial_equiv_from_equiv same-equivalence };
+
+    fn eq(&self, other: &ScanAngle) -> bool {
+        match (*self, *other) {
+            (ScanAngle::Rank(r), ScanAngle::Rank(q)) => r == q,
+            (ScanAngle::Rank(r), ScanAngle::Scaled(n)) => same(r, n),
+            (ScanAngle::Scaled(n), ScanAngle::Rank(r)) => same(r, n),
+            (ScanAngle::Scaled(n), ScanAngle::Scaled(m)) => n == m,
         }
     }
+}
 
-    // Rank 0.
-    pub fn default() -> ScanAngle
-        ensures { result ≡ ScanAngle.Rank (pos 0) }
-    {
+impl Eq for ScanAngle {
+    ghost laws = { same-equivalence };
+}
+
+// Rank 0.
+impl Default for ScanAngle {
+    ghost is_default = { λ a. a ≡ Rank (pos 0) };
+
+    fn default() -> ScanAngle {
         ScanAngle::Rank(0)
     }
 }

@@ -1,18 +1,18 @@
 -- Laws of an offer that adds: where its records go, and that whatever stands there is not looked at.
+use Rattle.std.specs.Prelude.{Ok}
 use Rattle.std.specs.Prelude.{ℕ, ◌+◌, ◌*◌, ◌≤◌, ◌≡◌, List, length, take}
 use Rattle.std.proofs.Common.{ap, subst, ◌∙◌, arith}
 use Rattle.header.specs.declared.Header.{Header}
 use Rattle.header.specs.Layout.{VersionMinor}
 use Rattle.header.specs.Header.{number}
-use Rattle.header.specs.Judged.{judged, read_of}
+use Rattle.header.specs.Judged.{judged, read_of, header_in}
 use Rattle.header.specs.Laws.{size-least}
 use Rattle.outline.specs.declared.Outline.{Outline}
 use Rattle.outline.specs.Outline.{outline_of}
-use Rattle.rules.specs.declared.Checked.TheVariants.{Accepted}
 use Rattle.file.specs.Rules.{checked_of}
 use Rattle.file.specs.Holds.{Holds, holds-judged}
 use Rattle.file.specs.Theorems.{accepted-holds}
-use Rattle.file.specs.Kept.{same-judged, same_read, same_check}
+use Rattle.file.specs.Kept.{same-judged, same_read, same_header_in, same_check}
 use Rattle.offer.specs.declared.Sweep.{Sweep}
 use Rattle.offer.specs.Offer.{record_length, end_in}
 use Rattle.offer.specs.Laws.{Adds, adds}
@@ -21,12 +21,12 @@ use Rattle.offer.specs.Tail.{same_offer}
 use Rattle.sectors.specs.Header.{none-after_12}
 
 -- a file of version 1.2 has no later records
-pub none_in_12 : (a : ℕ) (s : List ℕ) {m : ℕ} → checked_of a s ≡ Accepted m → (read_of s).header.version.minor ≡ 2 → (outline_of (read_of s).header).number_of_later_records ≡ 0
+pub none_in_12 : (a : ℕ) (s : List ℕ) {m : ℕ} → checked_of a s ≡ Ok m → (header_in s).version.minor ≡ 2 → (outline_of (header_in s)).number_of_later_records ≡ 0
 none_in_12 a s accepted two = (none-after_12 s (holds-judged s (accepted-holds a s accepted).header) two).1
 
 module _ (a : ℕ) (records : List ℕ) (n believed : ℕ) (s : List ℕ) (w : Sweep) (d : Adds a records n believed s w) where
   abbrev h : Header
-  h = (read_of s).header
+  h = header_in s
 
   abbrev o : Outline
   o = outline_of h
@@ -68,7 +68,10 @@ module _ (a : ℕ) (records : List ℕ) (n believed : ℕ) (s : List ℕ) (w : S
     pub free_read : read_of t ≡ read_of s
     free_read = same_read a s t holds none long free_front
 
-    pub free_accepted : checked_of a t ≡ Accepted d.proper.found
+    pub free_header : header_in t ≡ header_in s
+    free_header = same_header_in a s t holds none long free_front
+
+    pub free_accepted : checked_of a t ≡ Ok d.proper.found
     free_accepted = same_check a s t holds none long free_front d.proper.accepted
 
     pub free_adds : Adds a records n believed t w

@@ -1,4 +1,6 @@
 -- Laws of the points of a file while records are added to it, as its walker gives them.
+use Rattle.std.specs.Prelude.{Ok, Err}
+use Rattle.refusal.specs.Refused.{at_record}
 use Rattle.std.specs.Prelude.{ℕ, ◌+◌, ◌*◌, ◌≤◌, ◌<◌, ◌≡◌, refl, Bool, true, false, List, ltb, take, drop}
 use Rattle.std.proofs.Common.{sym, ap, ◌∙◌, inl, inr, add-mul, arith, ltb-true, ltb-false, drop-drop}
 use Rattle.std.specs.Borrow.{Bor}
@@ -6,33 +8,30 @@ use Rattle.refusal.specs.declared.Refusal.TheVariants.{Index}
 use Rattle.le.specs.Le.{Bytes}
 use Rattle.fields.specs.Table.{part}
 use Rattle.store.specs.Elsewhere.{Elsewhere}
-use Rattle.header.specs.declared.HeaderRead.{HeaderRead}
-use Rattle.header.specs.Judged.{read_of}
+use Rattle.header.specs.Judged.{header_in}
 use Rattle.outline.specs.declared.Outline.{Outline}
 use Rattle.outline.specs.Outline.{outline_of, counting}
-use Rattle.rules.specs.declared.Checked.TheVariants.{Accepted}
 use Rattle.file.specs.Rules.{checked_of}
 use Rattle.file.specs.Points.{point_format}
 use Rattle.file.specs.Kept.{same-part}
-use Rattle.walker.specs.declared.Walked.TheVariants.{Refused}
 use Rattle.offer.specs.declared.Sweep.{Sweep}
 use Rattle.offer.specs.Offer.{record_length, end_in}
 use Rattle.offer.specs.Laws.{Adds}
-use Rattle.append.specs.Adding.{holds, size-wide, free_front, free_read, free_accepted}
+use Rattle.append.specs.Adding.{holds, size-wide, free_front, free_header, free_accepted}
 use Rattle.append.specs.Final.{Bounds, full, full-grown, full_outline, full-accepted}
 use Rattle.append.specs.Points.{point_in, SamePoint, PointOf, OldPoints, OldThenNew, nth_at, record_within, point_there, none_behind}
 
 module _ (a : ℕ) (records : List ℕ) (n believed : ℕ) (old : Bor (List ℕ)) (w : Sweep) (d : Adds a records n believed old.now w) (old-bytes : Bytes old.now) where
   abbrev o : Outline
-  o = outline_of (read_of old.now).header
+  o = outline_of (header_in old.now)
 
   abbrev size : ℕ
-  size = record_length (read_of old.now).header
+  size = record_length (header_in old.now)
 
   abbrev end : ℕ
-  end = end_in (read_of old.now).header
+  end = end_in (header_in old.now)
 
-  old_says : outline_of (read_of old.now).header ≡ counting believed o
+  old_says : outline_of (header_in old.now) ≡ counting believed o
   old_says = ap (λ (c : ℕ). counting c o) d.count
 
   -- the old points lie before their end
@@ -41,7 +40,7 @@ module _ (a : ℕ) (records : List ℕ) (n believed : ℕ) (old : Bor (List ℕ)
 
   module _ (new : Bor (List ℕ)) (bytes : Bytes new.now) where
     -- an accepted file with the same bytes there has them
-    same_point : (points : ℕ) → checked_of a new.now ≡ Accepted d.proper.found → outline_of (read_of new.now).header ≡ counting points o → (i : ℕ) → i < believed → i < points → part size (nth_at o i) new.now ≡ part size (nth_at o i) old.now → SamePoint a new old i
+    same_point : (points : ℕ) → checked_of a new.now ≡ Ok d.proper.found → outline_of (header_in new.now) ≡ counting points o → (i : ℕ) → i < believed → i < points → part size (nth_at o i) new.now ≡ part size (nth_at o i) old.now → SamePoint a new old i
     same_point points accepted says i before within same =
         let x = point_there a new accepted bytes points o says i (part size (nth_at o i) old.now) within same in
         let y = point_there a old d.proper.accepted old-bytes believed o old_says i (part size (nth_at o i) old.now) before refl in
@@ -49,11 +48,11 @@ module _ (a : ℕ) (records : List ℕ) (n believed : ℕ) (old : Bor (List ℕ)
 
     -- where it differs only where the new records go, its points are exactly the old ones
     module _ (e : Elsewhere w.at w.bytes old.now new.now) where
-      accepted_still : checked_of a new.now ≡ Accepted d.proper.found
+      accepted_still : checked_of a new.now ≡ Ok d.proper.found
       accepted_still = free_accepted a records n believed old.now w d new.now e.long e.front
 
-      says_still : outline_of (read_of new.now).header ≡ counting believed o
-      says_still = ap (λ (r : HeaderRead). outline_of r.header) (free_read a records n believed old.now w d new.now e.long e.front) ∙ old_says
+      says_still : outline_of (header_in new.now) ≡ counting believed o
+      says_still = ap outline_of (free_header a records n believed old.now w d new.now e.long e.front) ∙ old_says
 
       still_there : (i : ℕ) → i < believed → SamePoint a new old i
       still_there i h =
@@ -77,11 +76,11 @@ module _ (a : ℕ) (records : List ℕ) (n believed : ℕ) (old : Bor (List ℕ)
       abbrev done : List ℕ
       done = full a records n believed old.now w d bounds b
 
-      accepted_then : checked_of a new.now ≡ Accepted d.proper.found
+      accepted_then : checked_of a new.now ≡ Ok d.proper.found
       accepted_then = ap (checked_of a) is ∙ full-accepted a records n believed old.now w d bounds b
 
-      says_then : outline_of (read_of new.now).header ≡ counting (believed + n) o
-      says_then = ap (λ (l : List ℕ). outline_of (read_of l).header) is ∙ full_outline a records n believed old.now w d bounds b
+      says_then : outline_of (header_in new.now) ≡ counting (believed + n) o
+      says_then = ap (λ (l : List ℕ). outline_of (header_in l)) is ∙ full_outline a records n believed old.now w d bounds b
 
       old-first : (i : ℕ) → i < believed → SamePoint a new old i
       old-first i h =
@@ -96,7 +95,7 @@ module _ (a : ℕ) (records : List ℕ) (n believed : ℕ) (old : Bor (List ℕ)
           (ap (part size (nth_at o (believed + j))) is ∙ ap (λ (p : ℕ). part size p done) place ∙ ap (take size) (sym (drop-drop (j * size) end done))
           ∙ same-part (n * size) records (drop end done) (full-grown a records n believed old.now w d bounds b).there size (j * size) (record_within j n size h))
 
-      then_none : (i : ℕ) → believed + n ≤ i → point_in a new i ≡ Refused (Index (believed + n)) 0
+      then_none : (i : ℕ) → believed + n ≤ i → point_in a new i ≡ Err (at_record (Index (believed + n)) 0)
       then_none i h = none_behind a new accepted_then bytes (believed + n) o says_then i h
 
       pub more_points : OldThenNew a believed old new (point_format o) size records n

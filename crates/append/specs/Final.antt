@@ -1,4 +1,6 @@
 -- Laws of what stands in the file after the last store of an offer that adds.
+use Rattle.std.specs.Prelude.{Ok}
+use Rattle.header.specs.Whole.{whole_of}
 use Rattle.std.specs.Prelude.{ℕ, ◌+◌, ◌*◌, ◌-◌, ◌^◌, ◌≤◌, ◌<◌, ◌≡◌, ◌⊎◌, List, length, get_or, take}
 use Rattle.std.proofs.Common.{sym, ap, ◌∙◌, inl, inr, ⊎_elim, add-mul, arith, length-take-le}
 use Rattle.std.proofs.lemmas.List.Edits.{sets}
@@ -6,16 +8,13 @@ use Rattle.std.proofs.Math.Seq.{length-sets}
 use Rattle.fields.specs.Table.{part}
 use Rattle.store.specs.Parts.{part_sets, part-there}
 use Rattle.header.specs.declared.Header.{Header}
-use Rattle.header.specs.declared.HeaderRead.{HeaderRead}
 use Rattle.header.specs.declared.Version.{Version}
-use Rattle.header.specs.declared.HeaderAnswer.TheVariants.{Whole}
 use Rattle.header.specs.Layout.{HeaderSize}
 use Rattle.header.specs.Header.{number}
-use Rattle.header.specs.Judged.{padded_to, judged, read_of}
+use Rattle.header.specs.Judged.{padded_to, judged, header_in}
 use Rattle.header.specs.Updated.{Beside, updated_alike}
 use Rattle.outline.specs.declared.Outline.{Outline}
 use Rattle.outline.specs.Outline.{outline_of, counting}
-use Rattle.rules.specs.declared.Checked.TheVariants.{Accepted}
 use Rattle.extents.specs.Extents.{points_end, vlr_bytes}
 use Rattle.file.specs.Rules.{checked_of}
 use Rattle.file.specs.Holds.{standard_in, holds-judged}
@@ -27,7 +26,7 @@ use Rattle.offer.specs.Sweeps.{by_return_fit}
 use Rattle.sectors.specs.Sectors.{by_return_of, with_header, stores_of, after_stores}
 use Rattle.sectors.specs.Header.{header_with, Fitting, length_header, drop_header, part_header, judged_header, header_read, outline_read}
 use Rattle.sectors.specs.Laws.{all-stores, no_more}
-use Rattle.append.specs.Adding.{holds, none, at-end, bytes-all, points-new, enough, size-wide, end-wide, free_front, free_judged, free_read}
+use Rattle.append.specs.Adding.{holds, none, at-end, bytes-all, points-new, enough, size-wide, end-wide, free_front, free_judged, free_header}
 
 -- an array of six u64
 pub record Bounds (bounds : List ℕ) : Type 0 where
@@ -38,15 +37,15 @@ pub record Bounds (bounds : List ℕ) : Type 0 where
 pub record Grown (records : List ℕ) (n : ℕ) (w : Sweep) (bounds s t : List ℕ) : Type 0 where
   pub long : length t ≡ length s
   -- the records stand behind the points that the header told
-  pub there : part (n * record_length (read_of s).header) (end_in (read_of s).header) t ≡ take (n * record_length (read_of s).header) records
+  pub there : part (n * record_length (header_in s)) (end_in (header_in s)) t ≡ take (n * record_length (header_in s)) records
   -- the header reads with the sweep's counts and the bounds, and every other field as it did
-  pub header : (read_of t).header ≡ header_with w bounds (read_of s).header
+  pub header : header_in t ≡ header_with w bounds (header_in s)
   -- every other byte is as it was
-  pub others : (m p : ℕ) → Beside p m → (p + m ≤ end_in (read_of s).header) ⊎ (end_in (read_of s).header + n * record_length (read_of s).header ≤ p) → part m p t ≡ part m p s
+  pub others : (m p : ℕ) → Beside p m → (p + m ≤ end_in (header_in s)) ⊎ (end_in (header_in s) + n * record_length (header_in s) ≤ p) → part m p t ≡ part m p s
 
 module _ (a : ℕ) (records : List ℕ) (n believed : ℕ) (s : List ℕ) (w : Sweep) (d : Adds a records n believed s w) where
   abbrev h : Header
-  h = (read_of s).header
+  h = header_in s
 
   abbrev o : Outline
   o = outline_of h
@@ -70,13 +69,13 @@ module _ (a : ℕ) (records : List ℕ) (n believed : ℕ) (s : List ℕ) (w : S
   laid-front : take w.at laid ≡ take w.at s
   laid-front = part_sets w.at 0 new s w.at (inl (omega arith))
 
-  laid_read : read_of laid ≡ read_of s
-  laid_read = free_read a records n believed s w d laid laid_long laid-front
+  laid_header : header_in laid ≡ header_in s
+  laid_header = free_header a records n believed s w d laid laid_long laid-front
 
   laid-judged : judged laid ≡ judged s
   laid-judged = free_judged a records n believed s w d laid laid_long laid-front
 
-  laid-whole : judged laid ≡ Whole (standard_in s) (padded_to (standard_in s) (number HeaderSize s))
+  laid-whole : judged laid ≡ Ok (whole_of (standard_in s) (padded_to (standard_in s) (number HeaderSize s)))
   laid-whole = laid-judged ∙ holds-judged s (holds a records n believed s w d).header
 
   module _ (bounds : List ℕ) (b : Bounds bounds) where
@@ -94,8 +93,8 @@ module _ (a : ℕ) (records : List ℕ) (n believed : ℕ) (s : List ℕ) (w : S
     fitting : Fitting w bounds
     fitting = record { points = d.fit.points; by-return = by_return_fit w d.fit; six = b.six; patterns = b.patterns }
 
-    full_header : (read_of full).header ≡ header_with w bounds h
-    full_header = header_read w bounds fitting laid laid-whole ∙ ap (λ (r : HeaderRead). header_with w bounds r.header) laid_read
+    full_header : header_in full ≡ header_with w bounds h
+    full_header = header_read w bounds fitting laid laid-whole ∙ ap (header_with w bounds) laid_header
 
     pub full-grown : Grown records n w bounds s full
     full-grown =
@@ -112,22 +111,22 @@ module _ (a : ℕ) (records : List ℕ) (n believed : ℕ) (s : List ℕ) (w : S
               ∙ part_sets m p new s w.at (⊎_elim (λ before. inl (omega arith)) (λ behind. inr (omega (arith, new_long))) apart);
         }
 
-    full_version : (read_of full).header.version.minor ≡ h.version.minor
+    full_version : (header_in full).version.minor ≡ h.version.minor
     full_version =
         ap (λ (g : Header). g.version.minor) full_header
         ∙ ap (λ (v : Version). v.minor) (updated_alike w.points (by_return_of w) bounds h).version
 
-    pub full_outline : outline_of (read_of full).header ≡ counting (believed + n) o
+    pub full_outline : outline_of (header_in full) ≡ counting (believed + n) o
     full_outline =
-        outline_read w bounds fitting laid laid-whole (ap (λ (r : HeaderRead). r.header.version.minor) laid_read ∙ d.proper.version)
-        ∙ ap (λ (r : HeaderRead). counting w.points (outline_of r.header)) laid_read
+        outline_read w bounds fitting laid laid-whole (ap (λ (x : Header). x.version.minor) laid_header ∙ d.proper.version)
+        ∙ ap (λ (x : Header). counting w.points (outline_of x)) laid_header
         ∙ ap (λ (k : ℕ). counting k o) (points-new a records n believed s w d)
 
     -- its points end where the records do
     new-end : points_end (counting (believed + n) o) ≡ end_in h + n * size
     new-end = omega (arith, add-mul believed n size, ap (λ (c : ℕ). c * size) d.count)
 
-    pub full-accepted : checked_of a full ≡ Accepted d.proper.found
+    pub full-accepted : checked_of a full ≡ Ok d.proper.found
     full-accepted =
         let hold = holds a records n believed s w d in
         let gap : ℕ = o.offset_to_point_data - o.header_size in
@@ -140,7 +139,7 @@ module _ (a : ℕ) (records : List ℕ) (n believed : ℕ) (s : List ℕ) (w : S
     -- and so they are in
     pub full_stands : Stands a records n believed full
     full_stands =
-        let each : record_length (read_of full).header ≡ size = ap (λ (x : Outline). x.point_data_record_length) full_outline in
+        let each : record_length (header_in full) ≡ size = ap (λ (x : Outline). x.point_data_record_length) full_outline in
         let start : points_end (counting (believed + n) o) - n * size ≡ end_in h = omega (arith, new-end) in
         record {
           proper = record {

@@ -6,14 +6,13 @@ ghost use Rattle.sectors.specs.Sectors.{stores_of, after_stores};
 ghost use Rattle.append.specs.Append.{appended_of};
 
 use offer::{Offer, Sweep};
-use refusal::Refusal;
+use refusal::Refused;
 
 // The records are added, or they stand in the file already, or why neither, with the record number of the file check's refusal.
 #[derive(Clone, Copy)]
 pub enum Appended {
     Added,
     AlreadyIn,
-    Refused { refusal: Refusal, record: u64 },
 }
 
 // Adds n records after the points of the file, with the new bounds as their bits (max x, min x, max y, min y, max z, min z), where
@@ -26,16 +25,16 @@ pub fn append(
     n: u64,
     bounds: [u64; 6],
     believed: u64,
-) -> Appended
+) -> Result<Appended, Refused>
     ensures { (result, file.new) ≡ appended_of allowance records.now n bounds believed file.old }
 {
-    match offer::judge(file, allowance, records, n, believed) {
+    let offer = offer::judge(file, allowance, records, n, believed)?;
+    match offer {
         Offer::Add(sweep) => {
             store_all(file, sweep, records, bounds);
-            Appended::Added
+            Ok(Appended::Added)
         }
-        Offer::AlreadyIn => Appended::AlreadyIn,
-        Offer::Refused { refusal, record } => Appended::Refused { refusal, record },
+        Offer::AlreadyIn => Ok(Appended::AlreadyIn),
     }
 }
 
@@ -43,10 +42,7 @@ pub fn append(
 fn store_all(file: &mut [u8], sweep: Sweep, records: &[u8], bounds: [u64; 6])
     ensures { file.new ≡ after_stores sweep records.now bounds (stores_of sweep) file.old }
 {
-    let stores = sectors::stores(sweep);
-    let mut k = 0;
-    while k < stores {
-        sectors::store(file, sweep, records, bounds, k);
-        k += 1;
+    for k in 0..sectors::stores(sweep) {
+        let _ = sectors::store(file, sweep, records, bounds, k);
     }
 }

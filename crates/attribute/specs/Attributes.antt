@@ -1,6 +1,10 @@
 -- The attributes of a file: document 02, No. 8, "The standard describes them in the VLR with user id LASF_Spec and record 4: descriptors of
 -- 192 bytes, type at byte 2, options at byte 3, name in 32 bytes from byte 4."
-use Rattle.std.specs.Prelude.{ℕ, zero, suc, ◌+◌, ◌-◌, ◌/◌, ◌%◌, Bool, true, false, cond, ◌&&◌, List, [], ◌∷◌, eqb, ltb, leb, length, take, drop}
+use Rattle.std.specs.Prelude.{Option, Some, None, Result, Ok, Err}
+use Rattle.refusal.specs.Refused.{at_record}
+use Rattle.refusal.specs.declared.Refused.{Refused}
+use Rattle.first_vlr.specs.declared.Span.{Span}
+use Rattle.std.specs.Prelude.{ℕ, zero, suc, ◌+◌, ◌-◌, ◌/◌, ◌%◌, Bool, true, cond, ◌&&◌, List, [], ◌∷◌, eqb, ltb, leb, length, take, drop}
 use Rattle.refusal.specs.declared.Refusal.TheVariants.{NoDescriptors, DescriptorBytes, DataType, AttributeSizes}
 use Rattle.format.specs.declared.Field.TheVariants.{ExtraBytes}
 use Rattle.format.specs.Fields.{place_of}
@@ -9,15 +13,9 @@ use Rattle.descriptor.specs.Sizes.{size_of}
 use Rattle.descriptor.specs.Descriptor.{type_in, options_in}
 use Rattle.outline.specs.declared.Outline.{Outline}
 use Rattle.file.specs.Points.{point_format}
-use Rattle.first_vlr.specs.declared.Opened.{Opened}
-use Rattle.first_vlr.specs.declared.Opened.TheVariants as opened
-use Rattle.first_vlr.specs.declared.FirstVlr.{FirstVlr}
-use Rattle.first_vlr.specs.declared.FirstVlr.TheVariants as first
 use Rattle.first_vlr.specs.First.{opened_of, first_of}
 use Rattle.attribute.specs.declared.Attribute.{Attribute}
 use Rattle.attribute.specs.declared.Attributes.{Attributes}
-use Rattle.attribute.specs.declared.Begun.{Begun}
-use Rattle.attribute.specs.declared.Begun.TheVariants.{At, Refused}
 use Rattle.attribute.specs.declared.Step.{Step}
 
 -- the bytes of a value, by the descriptor at the start of d, and by the one at a place of s
@@ -50,47 +48,38 @@ before_first o start n =
     }
 
 -- "data not a multiple of 192; a type above 10; sizes adding up to more than the extra bytes", each over all descriptors
-unfoldable pub described_in : Outline → ℕ → List ℕ → Begun
+unfoldable pub described_in : Outline → ℕ → List ℕ → Result Attributes Refused
 described_in o start d =
     let n = length d / descriptor_size in
     cond (eqb (length d % descriptor_size) 0)
     (cond (types_known n d)
-    (cond (leb (sizes_of n d) (point_format o).extra_bytes) (At (before_first o start n)) (Refused AttributeSizes 0))
-    (Refused DataType 0))
-    (Refused DescriptorBytes 0)
+    (cond (leb (sizes_of n d) (point_format o).extra_bytes) (Ok (before_first o start n)) (Err (at_record AttributeSizes 0)))
+    (Err (at_record DataType 0)))
+    (Err (at_record DescriptorBytes 0))
 
 -- "LASF_Spec"
 abbrev pub lasf_spec : List ℕ
 lasf_spec = 76 ∷ 65 ∷ 83 ∷ 70 ∷ 95 ∷ 83 ∷ 112 ∷ 101 ∷ 99 ∷ []
 
 -- "no such VLR"; "The first such VLR counts"
-abbrev pub begun_by : Outline → List ℕ → FirstVlr → Begun
-begun_by o s (first.At start n) = described_in o start (take n (drop start s))
-begun_by o s first.Nothing = Refused NoDescriptors 0
+abbrev pub begun_by : Outline → List ℕ → Option Span → Result Attributes Refused
+begun_by o s (Some at) = described_in o at.start (take at.length (drop at.start s))
+begun_by o s None = Err (at_record NoDescriptors 0)
 
-unfoldable pub begun_in : Outline → List ℕ → Begun
+unfoldable pub begun_in : Outline → List ℕ → Result Attributes Refused
 begun_in o s = begun_by o s (first_of o lasf_spec 4 s)
 
 -- "Refusals, in order: file check; .."
-abbrev pub begun_after : List ℕ → Opened → Begun
-begun_after s (opened.File o) = begun_in o s
-begun_after s (opened.Refused r k) = Refused r k
+abbrev pub begun_after : List ℕ → Result Outline Refused → Result Attributes Refused
+begun_after s (Ok o) = begun_in o s
+begun_after s (Err err) = Err err
 
-unfoldable pub begun_of : ℕ → List ℕ → Begun
+unfoldable pub begun_of : ℕ → List ℕ → Result Attributes Refused
 begun_of allowance s = begun_after s (opened_of allowance s)
 
 -- whether there is an attribute at a place; none at one whose descriptor or whose values no file has
 unfoldable pub has_next : List ℕ → Attributes → Bool
 has_next s c = ltb 0 c.left && (leb (c.descriptor + descriptor_size) (length s) && leb c.at 9223372036854775807)
-
-unfoldable pub ended : Attributes → Step
-ended c =
-    record {
-      has = false;
-      attribute = record { data_type = 0; size = 0; at = 0; stride = 0; count = 0 };
-      descriptor = 0;
-      next = c;
-    }
 
 -- the attribute whose descriptor stands there in s, and whose first value stands at `at`
 unfoldable pub attribute_at : List ℕ → ℕ → ℕ → Attributes → Attribute
@@ -108,8 +97,9 @@ after s c =
       count = c.count;
     }
 
-unfoldable pub next_of : List ℕ → Attributes → Step
-next_of s c =
-    cond (has_next s c)
-    (record { has = true; attribute = attribute_at s c.descriptor c.at c; descriptor = c.descriptor; next = after s c })
-    (ended c)
+-- an attribute, where its descriptor stands, and the place after it
+abbrev pub step_of : Attribute → ℕ → Attributes → Step
+step_of a d c = record { attribute = a; descriptor = d; next = c }
+
+unfoldable pub next_of : List ℕ → Attributes → Option Step
+next_of s c = cond (has_next s c) (Some (step_of (attribute_at s c.descriptor c.at c) c.descriptor (after s c))) None

@@ -1,4 +1,7 @@
 -- What the tests over all descriptors say of each: the k-th, counted from 0, is what stands k times 192 bytes behind the first.
+use Rattle.std.specs.Prelude.{Option, Some, None}
+use Rattle.attribute.specs.NamedAt.{named_at}
+use Rattle.attribute.specs.declared.Named.{Named}
 use Prim.Native.Nat.{ℕ, zero, suc, ◌+◌, ◌*◌, ◌≤◌, ◌<◌}
 use Rattle.std.specs.Prelude.{◌≡◌, Bool, cond, ◌&&◌, List, leb, drop}
 use Rattle.std.proofs.Math.Path.{refl}
@@ -7,8 +10,6 @@ use Rattle.std.proofs.Math.Bool.{true, false, and-eq-true_iff}
 use native.Mathlib.Omega.{arith}
 use Rattle.descriptor.specs.Descriptor.{type_in, name_in}
 use Rattle.names.specs.Names.{is_named}
-use Rattle.attribute.specs.declared.Named.{Named}
-use Rattle.attribute.specs.declared.Named.TheVariants.{At, Nothing}
 use Rattle.attribute.specs.Attributes.{size_in, types_known, sizes_of}
 use Rattle.attribute.specs.Find.{named_from}
 
@@ -53,25 +54,25 @@ module _ (name : List ℕ) where
     pub none_before : (i : ℕ) → i < j → has i d ≡ false
 
   -- what the search answers
-  abbrev pub Answers : ℕ → ℕ → ℕ → List ℕ → Named → Type 0
-  Answers n k place d (At a p) = (j : ℕ) × FirstNamed n d j × (a ≡ k + j * 192) × (p ≡ place + sizes_of j d)
-  Answers n k place d Nothing = (i : ℕ) → i < n → has i d ≡ false
+  abbrev pub Answers : ℕ → ℕ → ℕ → List ℕ → Option Named → Type 0
+  Answers n k place d (Some named) = (j : ℕ) × FirstNamed n d j × (named.descriptor ≡ k + j * 192) × (named.place ≡ place + sizes_of j d)
+  Answers n k place d None = (i : ℕ) → i < n → has i d ≡ false
 
-  passed : (n k place : ℕ) (d : List ℕ) → has 0 d ≡ false → (x : Named) → Answers n (k + 192) (place + size_in d) (drop 192 d) x → Answers (suc n) k place d x
+  passed : (n k place : ℕ) (d : List ℕ) → has 0 d ≡ false → (x : Option Named) → Answers n (k + 192) (place + size_in d) (drop 192 d) x → Answers (suc n) k place d x
   unfolding sizes_of
-  passed n k place d other (At a p) (j, f, at, sum) =
+  passed n k place d other (Some named) (j, f, at, sum) =
       (suc j, record { one_of = omega (arith, f.one_of); it_has = rw later f.it_has; none_before = before }, omega arith, omega arith)
     where
       before : (i : ℕ) → i < suc j → has i d ≡ false
       before zero h = other
       before (suc i) h = rw later (f.none_before i (omega arith))
-  passed n k place d other Nothing none = each
+  passed n k place d other None none = each
     where
       each : (i : ℕ) → i < suc n → has i d ≡ false
       each zero h = other
       each (suc i) h = rw later (none i (omega arith))
 
-  here : (n k place : ℕ) (d : List ℕ) (others : Named) → Answers n (k + 192) (place + size_in d) (drop 192 d) others → (b : Bool) → has 0 d ≡ b → Answers (suc n) k place d (cond b (At k place) others)
+  here : (n k place : ℕ) (d : List ℕ) (others : Option Named) → Answers n (k + 192) (place + size_in d) (drop 192 d) others → (b : Bool) → has 0 d ≡ b → Answers (suc n) k place d (cond b (Some (named_at k place)) others)
   unfolding sizes_of
   here n k place d others later true e = (0, record { one_of = omega arith; it_has = e; none_before = λ i h. absurd (omega arith) }, omega arith, omega arith)
   here n k place d others later false e = passed n k place d e others later
@@ -82,12 +83,12 @@ module _ (name : List ℕ) where
   answers (suc n) k place d = here n k place d (named_from name n (k + 192) (place + size_in d) (drop 192 d)) (answers n (k + 192) (place + size_in d) (drop 192 d)) (has 0 d) refl
 
   -- and where none has it, nothing is found
-  pub none_has : (n k place : ℕ) (d : List ℕ) → ((i : ℕ) → i < n → has i d ≡ false) → named_from name n k place d ≡ Nothing
+  pub none_has : (n k place : ℕ) (d : List ℕ) → ((i : ℕ) → i < n → has i d ≡ false) → named_from name n k place d ≡ None
   none_has n k place d none = go (named_from name n k place d) refl (answers n k place d)
     where
-      go : (x : Named) → named_from name n k place d ≡ x → Answers n k place d x → x ≡ Nothing
-      go (At a p) e (j, f, at, sum) =
+      go : (x : Option Named) → named_from name n k place d ≡ x → Answers n k place d x → x ≡ None
+      go (Some named) e (j, f, at, sum) =
           let no = none j f.one_of in
           let z : ◌≡◌ {A = ℕ} 0 1 = ap (λ (b : Bool). cond b 0 1) (sym f.it_has ∙ no) in
           absurd (omega arith)
-      go Nothing e h = refl
+      go None e h = refl

@@ -1,4 +1,7 @@
 -- Laws of attributes: one descriptor more, and what each test of the definitions says.
+use Rattle.std.specs.Prelude.{Some, None, Ok, Err}
+use Rattle.attribute.specs.NamedAt.{named_at, named_same}
+use Rattle.refusal.specs.Refused.{at_record}
 use Rattle.std.specs.Prelude.{ℕ, zero, suc, ◌+◌, ◌*◌, ◌-◌, ◌/◌, ◌%◌, ◌≤◌, ◌<◌, Bool, ◌&&◌, List, length, take, drop}
 use Rattle.std.proofs.Math.Path.{◌≡◌, refl, ap}
 use Rattle.std.proofs.Common.{sym, ◌∙◌, arith}
@@ -15,9 +18,7 @@ use Rattle.outline.specs.declared.Outline.{Outline}
 use Rattle.file.specs.Points.{point_format}
 use Rattle.names.specs.Names.{is_named}
 use Rattle.attribute.specs.declared.Attributes.{Attributes}
-use Rattle.attribute.specs.declared.Begun.TheVariants as begun
-use Rattle.attribute.specs.declared.Named.TheVariants.{At}
-use Rattle.attribute.specs.Attributes.{size_in, size_at, types_known, sizes_of, before_first, described_in, has_next, ended, attribute_at, after, next_of}
+use Rattle.attribute.specs.Attributes.{size_in, size_at, types_known, sizes_of, before_first, described_in, has_next, attribute_at, after, step_of, next_of}
 use Rattle.attribute.specs.Find.{named_from}
 
 -- a descriptor's type and size, read at its place
@@ -48,7 +49,7 @@ module _ (d : List ℕ) (at left : ℕ) (some : 0 < left) where
   sizes_turn = ap (λ (k : ℕ). sizes_of k (drop at d)) one ∙ rw drop-drop
 
   module _ (name : List ℕ) (place : ℕ) where
-    pub named_here : is_named (name_in (drop at d)) name ≡ true → named_from name left at place (drop at d) ≡ At at place
+    pub named_here : is_named (name_in (drop at d)) name ≡ true → named_from name left at place (drop at d) ≡ Some (named_at at place)
     unfolding named_from
     named_here e = ap (λ (k : ℕ). named_from name k at place (drop at d)) one ∙ rw e
 
@@ -57,15 +58,15 @@ module _ (d : List ℕ) (at left : ℕ) (some : 0 < left) where
     named_later e = ap (λ (k : ℕ). named_from name k at place (drop at d)) one ∙ rw (e, drop-drop)
 
 -- a descriptor with the name is one of those that are searched, and the values before its own are some of theirs
-pub named_within : (name : List ℕ) (n k place : ℕ) (d : List ℕ) {a p : ℕ} → named_from name n k place d ≡ At a p → (a + 192 ≤ k + n * 192) × (p ≤ place + sizes_of n d)
+pub named_within : (name : List ℕ) (n k place : ℕ) (d : List ℕ) {a p : ℕ} → named_from name n k place d ≡ Some (named_at a p) → (a + 192 ≤ k + n * 192) × (p ≤ place + sizes_of n d)
 unfolding named_from sizes_of
 named_within name zero k place d e = let z : ◌≡◌ {A = ℕ} 0 1 = cc in absurd (omega arith)
 named_within name (suc n) k place d {a} {p} e = go (is_named (name_in d) name) (named_within name n (k + 192) (place + size_in d) (drop 192 d)) e
   where
-    go : (b : Bool) → (named_from name n (k + 192) (place + size_in d) (drop 192 d) ≡ At a p → (a + 192 ≤ k + 192 + n * 192) × (p ≤ place + size_in d + sizes_of n (drop 192 d))) → cond b (At k place) (named_from name n (k + 192) (place + size_in d) (drop 192 d)) ≡ At a p → (a + 192 ≤ k + suc n * 192) × (p ≤ place + (size_in d + sizes_of n (drop 192 d)))
+    go : (b : Bool) → (named_from name n (k + 192) (place + size_in d) (drop 192 d) ≡ Some (named_at a p) → (a + 192 ≤ k + 192 + n * 192) × (p ≤ place + size_in d + sizes_of n (drop 192 d))) → cond b (Some (named_at k place)) (named_from name n (k + 192) (place + size_in d) (drop 192 d)) ≡ Some (named_at a p) → (a + 192 ≤ k + suc n * 192) × (p ≤ place + (size_in d + sizes_of n (drop 192 d)))
     go true later e =
-        let at : k ≡ a = cc in
-        let is : place ≡ p = cc in
+        let at : k ≡ a = (named_same e).0 in
+        let is : place ≡ p = (named_same e).1 in
         (omega arith, omega arith)
     go false later e = (omega (arith, (later e).0), omega (arith, (later e).1))
 
@@ -74,30 +75,30 @@ module _ (o : Outline) (start : ℕ) (d : List ℕ) where
   abbrev count : ℕ
   count = length d / 192
 
-  pub not_a_multiple : (length d % 192 ≡ 0 → ⊥) → described_in o start d ≡ begun.Refused DescriptorBytes 0
+  pub not_a_multiple : (length d % 192 ≡ 0 → ⊥) → described_in o start d ≡ Err (at_record DescriptorBytes 0)
   unfolding described_in
   not_a_multiple h = rw (ne_eqb _ _ h)
 
   module _ (multiple : length d % 192 ≡ 0) where
-    pub type_unknown : types_known count d ≡ false → described_in o start d ≡ begun.Refused DataType 0
+    pub type_unknown : types_known count d ≡ false → described_in o start d ≡ Err (at_record DataType 0)
     unfolding described_in
     type_unknown e = rw (eq-eqb _ _ multiple, e)
 
     module _ (types : types_known count d ≡ true) where
-      pub sizes_over : leb (sizes_of count d) (point_format o).extra_bytes ≡ false → described_in o start d ≡ begun.Refused AttributeSizes 0
+      pub sizes_over : leb (sizes_of count d) (point_format o).extra_bytes ≡ false → described_in o start d ≡ Err (at_record AttributeSizes 0)
       unfolding described_in
       sizes_over e = rw (eq-eqb _ _ multiple, types, e)
 
-      pub described : leb (sizes_of count d) (point_format o).extra_bytes ≡ true → described_in o start d ≡ begun.At (before_first o start count)
+      pub described : leb (sizes_of count d) (point_format o).extra_bytes ≡ true → described_in o start d ≡ Ok (before_first o start count)
       unfolding described_in
       described e = rw (eq-eqb _ _ multiple, types, e)
 
   -- and what it says that there is a place before the first
-  pub described_says : {c : Attributes} → described_in o start d ≡ begun.At c → (length d % 192 ≡ 0) × (types_known count d ≡ true) × (sizes_of count d ≤ (point_format o).extra_bytes) × (c ≡ before_first o start count)
+  pub described_says : {c : Attributes} → described_in o start d ≡ Ok c → (length d % 192 ≡ 0) × (types_known count d ≡ true) × (sizes_of count d ≤ (point_format o).extra_bytes) × (c ≡ before_first o start count)
   unfolding described_in
   described_says {c} = go (eqb (length d % 192) 0) (types_known count d) (leb (sizes_of count d) (point_format o).extra_bytes) refl refl refl
     where
-      go : (x y z : Bool) → eqb (length d % 192) 0 ≡ x → types_known (length d / 192) d ≡ y → leb (sizes_of (length d / 192) d) (point_format o).extra_bytes ≡ z → cond x (cond y (cond z (begun.At (before_first o start (length d / 192))) (begun.Refused AttributeSizes 0)) (begun.Refused DataType 0)) (begun.Refused DescriptorBytes 0) ≡ begun.At c → (length d % 192 ≡ 0) × (types_known (length d / 192) d ≡ true) × (sizes_of (length d / 192) d ≤ (point_format o).extra_bytes) × (c ≡ before_first o start (length d / 192))
+      go : (x y z : Bool) → eqb (length d % 192) 0 ≡ x → types_known (length d / 192) d ≡ y → leb (sizes_of (length d / 192) d) (point_format o).extra_bytes ≡ z → cond x (cond y (cond z (Ok (before_first o start (length d / 192))) (Err (at_record AttributeSizes 0))) (Err (at_record DataType 0))) (Err (at_record DescriptorBytes 0)) ≡ Ok c → (length d % 192 ≡ 0) × (types_known (length d / 192) d ≡ true) × (sizes_of (length d / 192) d ≤ (point_format o).extra_bytes) × (c ≡ before_first o start (length d / 192))
       go true true true a b e p = (eqb-true _ _ a, b, leb-true _ _ e, cc)
       go true true false a b e p = let z : ◌≡◌ {A = ℕ} 0 1 = cc in absurd (omega arith)
       go true false z a b e p = let z : ◌≡◌ {A = ℕ} 0 1 = cc in absurd (omega arith)
@@ -105,22 +106,22 @@ module _ (o : Outline) (start : ℕ) (d : List ℕ) where
 
 -- where there is no attribute
 module _ (s : List ℕ) (c : Attributes) where
-  none : has_next s c ≡ false → next_of s c ≡ ended c
+  none : has_next s c ≡ false → next_of s c ≡ None
   unfolding next_of
   none e = rw e
 
-  pub none_left : c.left ≡ 0 → next_of s c ≡ ended c
+  pub none_left : c.left ≡ 0 → next_of s c ≡ None
   unfolding has_next
   none_left e = none (rw (le-ltb 0 c.left (omega arith)))
 
-  pub no_descriptor_lem : length s < c.descriptor + 192 → next_of s c ≡ ended c
+  pub no_descriptor_lem : length s < c.descriptor + 192 → next_of s c ≡ None
   unfolding has_next
   no_descriptor_lem h = none (rw (lt-leb _ _ h, and-false))
 
-  pub too_far_lem : 9223372036854775807 < c.at → next_of s c ≡ ended c
+  pub too_far_lem : 9223372036854775807 < c.at → next_of s c ≡ None
   unfolding has_next
   too_far_lem h = none (rw (lt-leb _ _ h, and-false, and-false))
 
-  pub one-there : 0 < c.left → c.descriptor + 192 ≤ length s → c.at ≤ 9223372036854775807 → next_of s c ≡ record { has = true; attribute = attribute_at s c.descriptor c.at c; descriptor = c.descriptor; next = after s c }
+  pub one-there : 0 < c.left → c.descriptor + 192 ≤ length s → c.at ≤ 9223372036854775807 → next_of s c ≡ Some (step_of (attribute_at s c.descriptor c.at c) c.descriptor (after s c))
   unfolding next_of has_next
   one-there h g f = rw (lt-ltb _ _ h, le-leb _ _ g, le-leb _ _ f)

@@ -1,4 +1,5 @@
 -- definitions
+pub mod NamedAt
 pub mod Attributes
 pub mod Find
 pub mod Each

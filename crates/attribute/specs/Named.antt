@@ -1,4 +1,9 @@
 -- Which attribute is found by a name, and when none is.
+use Rattle.std.specs.Prelude.{Option, Some, None, Result, Ok, Err}
+use Rattle.attribute.specs.NamedAt.{named_at}
+use Rattle.refusal.specs.Refused.{at_record, ok_same, refused_same}
+use Rattle.refusal.specs.declared.Refused.{Refused}
+use Rattle.attribute.specs.declared.Named.{Named}
 use Rattle.std.specs.Prelude.{ℕ, zero, suc, ◌+◌, ◌*◌, ◌-◌, ◌≤◌, ◌<◌, ◌≡◌, refl, List, take, drop}
 use Rattle.std.proofs.Math.Path.{ap}
 use Rattle.std.proofs.Common.{sym, subst, ◌∙◌, add-zero, le-leb, drop-drop}
@@ -17,11 +22,6 @@ use Rattle.file.specs.Points.{point_format}
 use Rattle.cursor.specs.Parts.{outline_in}
 use Rattle.attribute.specs.declared.Attribute.{Attribute}
 use Rattle.attribute.specs.declared.Attributes.{Attributes}
-use Rattle.attribute.specs.declared.Begun.{Begun}
-use Rattle.attribute.specs.declared.Begun.TheVariants as begun
-use Rattle.attribute.specs.declared.Found.TheVariants.{Is, Refused}
-use Rattle.attribute.specs.declared.Named.{Named}
-use Rattle.attribute.specs.declared.Named.TheVariants.{At, Nothing}
 use Rattle.attribute.specs.Attributes.{size_in, sizes_of, before_first, attribute_at, begun_of}
 use Rattle.attribute.specs.Find.{named_from, searched_by, searched_in, found_by, found_of}
 use Rattle.attribute.specs.Laws.{described}
@@ -64,19 +64,19 @@ module _ (allowance : ℕ) (name s : List ℕ) where
 
   -- the search among n descriptors that pass the tests
   module _ {start n : ℕ} (at : DataAt allowance s start (n * 192)) (fit : Fitting allowance s start n) where
-    begins : begun_of allowance s ≡ begun.At (before_first o start n)
+    begins : begun_of allowance s ≡ Ok (before_first o start n)
     begins =
         let l = take (n * 192) (drop start s) in
         let (multiple, count) = whole allowance s at.1 in
         by_data allowance s at
         ∙ described o start l multiple (rw count (types-known n l fit.0)) (rw count (le-leb (sizes_of n l) (point_format o).extra_bytes fit.1))
-        ∙ ap (λ (k : ℕ). begun.At (before_first o start k)) count
+        ∙ ap (λ (k : ℕ). Ok (before_first o start k)) count
 
     searched : found_of allowance name s ≡ searched_by (before_first o start n) s (named_from name n 0 0 (descriptors allowance s start n))
     unfolding found_of searched_in before_first
     searched = ap (found_by name s) begins
 
-  pub then_not_found : {why : Refusal} {j : ℕ} → NotFoundFor allowance s name why j → found_of allowance name s ≡ Refused why j
+  pub then_not_found : {why : Refusal} {j : ℕ} → NotFoundFor allowance s name why j → found_of allowance name s ≡ Err (at_record why j)
   unfolding found_of
   then_not_found (none x) = rw (then_none allowance s x)
   then_not_found (no_name {start} {n} at fit each) = searched at fit ∙ rw (none_has name n 0 0 (descriptors allowance s start n) each)
@@ -85,41 +85,41 @@ module _ (allowance : ℕ) (name s : List ℕ) where
   passes : {c : Attributes} (b : Began allowance s c) → DataAt allowance s b.start (b.n * 192) × Fitting allowance s b.start b.n
   passes b = (((b.records, b.accepted), b.found), (types_all b.n (take (b.n * 192) (drop b.start s)) b.types, b.sizes))
 
-  not_among : {c : Attributes} {why : Refusal} {j : ℕ} (b : Began allowance s c) → found_of allowance name s ≡ Refused why j → NotFoundFor allowance s name why j
+  not_among : {c : Attributes} {why : Refusal} {j : ℕ} (b : Began allowance s c) → found_of allowance name s ≡ Err (at_record why j) → NotFoundFor allowance s name why j
   not_among {c} {why} {j} b e = go (named_from name b.n 0 0 l) refl (answers name b.n 0 0 l) (sym (searched (passes b).0 (passes b).1) ∙ e)
     where
       l : List ℕ
       l = descriptors allowance s b.start b.n
 
-      go : (x : Named) → named_from name b.n 0 0 (descriptors allowance s b.start b.n) ≡ x → Answers name b.n 0 0 (descriptors allowance s b.start b.n) x → searched_by (before_first (outline_in s) b.start b.n) s x ≡ Refused why j → NotFoundFor allowance s name why j
-      go (At k p) q h e = let z : ◌≡◌ {A = ℕ} 0 1 = cc in absurd (omega arith)
-      go Nothing q h e =
-          let same : NameNotFound ≡ why = cc in
-          let number : 0 ≡ j = cc in
+      go : (x : Option Named) → named_from name b.n 0 0 (descriptors allowance s b.start b.n) ≡ x → Answers name b.n 0 0 (descriptors allowance s b.start b.n) x → searched_by (before_first (outline_in s) b.start b.n) s x ≡ Err (at_record why j) → NotFoundFor allowance s name why j
+      go (Some named) q h e = let z : ◌≡◌ {A = ℕ} 0 1 = cc in absurd (omega arith)
+      go None q h e =
+          let same : NameNotFound ≡ why = (refused_same e).0 in
+          let number : 0 ≡ j = (refused_same e).1 in
           subst (λ (r : Refusal). NotFoundFor allowance s name r j) same (subst (NotFoundFor allowance s name NameNotFound) number (no_name (passes b).0 (passes b).1 h))
 
   -- what the answer goes by
-  by_begun : {x : Begun} → begun_of allowance s ≡ x → found_of allowance name s ≡ found_by name s x
+  by_begun : {x : Result Attributes Refused} → begun_of allowance s ≡ x → found_of allowance name s ≡ found_by name s x
   unfolding found_of
   by_begun = ap (found_by name s)
 
-  pub not_found_then : {why : Refusal} {j : ℕ} → found_of allowance name s ≡ Refused why j → NotFoundFor allowance s name why j
+  pub not_found_then : {why : Refusal} {j : ℕ} → found_of allowance name s ≡ Err (at_record why j) → NotFoundFor allowance s name why j
   not_found_then {why} {j} e = go (begun_of allowance s) refl
     where
-      go : (x : Begun) → begun_of allowance s ≡ x → NotFoundFor allowance s name why j
-      go (begun.At c) q = not_among (began allowance s q) e
-      go (begun.Refused r k) q =
-          let p : Refused r k ≡ Refused why j = sym (by_begun q) ∙ e in
-          let same : r ≡ why = cc in
-          let number : k ≡ j = cc in
-          none (none_then allowance s (q ∙ λ i. begun.Refused (same i) (number i)))
+      go : (x : Result Attributes Refused) → begun_of allowance s ≡ x → NotFoundFor allowance s name why j
+      go (Ok c) q = not_among (began allowance s q) e
+      go (Err err) q =
+          let p : Err err ≡ Err (at_record why j) = sym (by_begun q) ∙ e in
+          let same : err.refusal ≡ why = (refused_same p).0 in
+          let number : err.«record» ≡ j = (refused_same p).1 in
+          none (none_then allowance s (q ∙ λ i. Err (at_record (same i) (number i))))
 
   -- an attribute that is found
-  made : (start n k p : ℕ) {a : Attribute} → searched_by (before_first o start n) s (At k p) ≡ Is a → a ≡ attribute_at s (start + k) (o.offset_to_point_data + place_of (point_format o) ExtraBytes + p) (before_first o start n)
+  made : (start n k p : ℕ) {a : Attribute} → searched_by (before_first o start n) s (Some (named_at k p)) ≡ Ok a → a ≡ attribute_at s (start + k) (o.offset_to_point_data + place_of (point_format o) ExtraBytes + p) (before_first o start n)
   unfolding before_first
-  made start n k p e = cc
+  made start n k p e = sym (ok_same e)
 
-  found_at : {start n k p j : ℕ} {a : Attribute} → DataAt allowance s start (n * 192) → Fitting allowance s start n → FirstNamed name n (descriptors allowance s start n) j → k ≡ 0 + j * 192 → p ≡ 0 + sizes_of j (descriptors allowance s start n) → searched_by (before_first o start n) s (At k p) ≡ Is a → FoundIn allowance s name a
+  found_at : {start n k p j : ℕ} {a : Attribute} → DataAt allowance s start (n * 192) → Fitting allowance s start n → FirstNamed name n (descriptors allowance s start n) j → k ≡ 0 + j * 192 → p ≡ 0 + sizes_of j (descriptors allowance s start n) → searched_by (before_first o start n) s (Some (named_at k p)) ≡ Ok a → FoundIn allowance s name a
   unfolding attribute_at before_first
   found_at {start} {n} {k} {p} {j} {a} vlr fit f at sum e =
       let is = made start n k p e in
@@ -141,19 +141,19 @@ module _ (allowance : ℕ) (name s : List ℕ) where
         count = ap (λ (x : Attribute). x.count) is;
       }
 
-  among : {c : Attributes} {a : Attribute} (b : Began allowance s c) → found_of allowance name s ≡ Is a → FoundIn allowance s name a
+  among : {c : Attributes} {a : Attribute} (b : Began allowance s c) → found_of allowance name s ≡ Ok a → FoundIn allowance s name a
   among {c} {a} b e = go (named_from name b.n 0 0 (descriptors allowance s b.start b.n)) (answers name b.n 0 0 (descriptors allowance s b.start b.n)) (sym (searched (passes b).0 (passes b).1) ∙ e)
     where
-      go : (x : Named) → Answers name b.n 0 0 (descriptors allowance s b.start b.n) x → searched_by (before_first (outline_in s) b.start b.n) s x ≡ Is a → FoundIn allowance s name a
-      go Nothing h p = let z : ◌≡◌ {A = ℕ} 0 1 = cc in absurd (omega arith)
-      go (At k p) (j, f, at, sum) q = found_at (passes b).0 (passes b).1 f at sum q
+      go : (x : Option Named) → Answers name b.n 0 0 (descriptors allowance s b.start b.n) x → searched_by (before_first (outline_in s) b.start b.n) s x ≡ Ok a → FoundIn allowance s name a
+      go None h p = let z : ◌≡◌ {A = ℕ} 0 1 = cc in absurd (omega arith)
+      go (Some named) (j, f, at, sum) q = found_at (passes b).0 (passes b).1 f at sum q
 
-  pub found_then : {a : Attribute} → found_of allowance name s ≡ Is a → FoundIn allowance s name a
+  pub found_then : {a : Attribute} → found_of allowance name s ≡ Ok a → FoundIn allowance s name a
   found_then {a} e = go (begun_of allowance s) refl
     where
-      go : (x : Begun) → begun_of allowance s ≡ x → FoundIn allowance s name a
-      go (begun.At c) q = among (began allowance s q) e
-      go (begun.Refused r k) q =
-          let p : Refused r k ≡ Is a = sym (by_begun q) ∙ e in
+      go : (x : Result Attributes Refused) → begun_of allowance s ≡ x → FoundIn allowance s name a
+      go (Ok c) q = among (began allowance s q) e
+      go (Err err) q =
+          let p : Err err ≡ Ok a = sym (by_begun q) ∙ e in
           let z : ◌≡◌ {A = ℕ} 0 1 = cc in
           absurd (omega arith)

@@ -1,5 +1,7 @@
 -- What is promised of attributes: document 02, No. 8.
-use Rattle.std.specs.Prelude.{ℕ, ◌+◌, ◌*◌, ◌≤◌, ◌<◌, ◌≡◌, true, false, List, take, drop, length}
+use Rattle.std.specs.Prelude.{None, Ok, Err}
+use Rattle.refusal.specs.Refused.{at_record}
+use Rattle.std.specs.Prelude.{ℕ, ◌+◌, ◌*◌, ◌≤◌, ◌<◌, ◌≡◌, List, take, drop, length}
 use Rattle.std.proofs.Common.{◌∙◌, zero-mul, arith}
 use Rattle.std.proofs.Math.Nat.{add-zero, sub-zero}
 use Rattle.le.specs.Le.{Bytes}
@@ -13,14 +15,12 @@ use Rattle.file.specs.Points.{point_format, offset_fits}
 use Rattle.cursor.specs.Parts.{outline_in}
 use Rattle.attribute.specs.declared.Attribute.{Attribute}
 use Rattle.attribute.specs.declared.Attributes.{Attributes}
-use Rattle.attribute.specs.declared.Begun.TheVariants as begun
-use Rattle.attribute.specs.declared.Found.TheVariants.{Is, Refused}
 use Rattle.attribute.specs.Attributes.{size_in, sizes_of, before_first, begun_of, next_of}
 use Rattle.attribute.specs.Find.{found_of}
 use Rattle.attribute.specs.Each.{nth}
 use Rattle.attribute.specs.Exact.{NoneFor, NotFoundFor, FoundIn}
 use Rattle.attribute.specs.Ready.{Began, extra_small}
-use Rattle.attribute.specs.Turn.{walked, before, tells, stops}
+use Rattle.attribute.specs.Turn.{walked, Tells, before, tells, stops}
 use Rattle.attribute.specs.Told.{then_none, none_then}
 use Rattle.attribute.specs.Named.{then_not_found, not_found_then, found_then}
 
@@ -28,16 +28,16 @@ module _ (allowance : ℕ) (s : List ℕ) {why : Refusal} {j : ℕ} where
   -- "Refusals, in order: file check; no such VLR; data not a multiple of 192; a type above 10; sizes adding up to more than the extra bytes":
   -- a file has no attributes exactly where one of these holds, and none before it. Each is over all descriptors, so that a broken later one
   -- refuses an earlier name.
-  pub none_exactly : (begun_of allowance s ≡ begun.Refused why j → NoneFor allowance s why j) × (NoneFor allowance s why j → begun_of allowance s ≡ begun.Refused why j)
+  pub none_exactly : (begun_of allowance s ≡ Err (at_record why j) → NoneFor allowance s why j) × (NoneFor allowance s why j → begun_of allowance s ≡ Err (at_record why j))
   none_exactly = (none_then allowance s, then_none allowance s)
 
   -- ".. name not found": and none is found exactly where it has none, or none of them has the name.
-  pub not_found_exactly : (name : List ℕ) → (found_of allowance name s ≡ Refused why j → NotFoundFor allowance s name why j) × (NotFoundFor allowance s name why j → found_of allowance name s ≡ Refused why j)
+  pub not_found_exactly : (name : List ℕ) → (found_of allowance name s ≡ Err (at_record why j) → NotFoundFor allowance s name why j) × (NotFoundFor allowance s name why j → found_of allowance name s ≡ Err (at_record why j))
   not_found_exactly name = (not_found_then allowance name s, then_not_found allowance name s)
 
 -- "find an attribute by its name, zeros filling it to 32 bytes"; "The first such VLR counts; of equal names, the first": what is found is of the
 -- first descriptor with the name; its value stands behind the values before it, and ends within the extra bytes.
-pub found : (allowance : ℕ) (s name : List ℕ) {a : Attribute} → found_of allowance name s ≡ Is a → FoundIn allowance s name a
+pub found : (allowance : ℕ) (s name : List ℕ) {a : Attribute} → found_of allowance name s ≡ Ok a → FoundIn allowance s name a
 found allowance s name = found_then allowance name s
 
 -- "give its value in any point": the attributes of a file are told one after the other, as its descriptors stand, each with the place of its value
@@ -59,8 +59,8 @@ module _ (allowance : ℕ) (s : List ℕ) (bytes : Bytes s) (lent : length s + 6
   near : first + sizes_of b.n d ≤ 9223372036854775807
   near = omega (arith, offset_fits s bytes, fixed_le (point_format o), b.sizes, extra_small allowance s bytes b)
 
-  pub in_turn : (k : ℕ) → k < b.n → (let r = next_of s (walked k s c) in (r.has ≡ true) × (r.descriptor ≡ b.start + k * 192) × (r.attribute ≡ record { data_type = type_in (nth k d); size = size_in (nth k d); at = first + sizes_of k d; stride = o.point_data_record_length; count = o.number_of_point_records }))
+  pub in_turn : (k : ℕ) → k < b.n → Tells (next_of s (walked k s c)) (b.start + k * 192) (record { data_type = type_in (nth k d); size = size_in (nth k d); at = first + sizes_of k d; stride = o.point_data_record_length; count = o.number_of_point_records })
   in_turn k h = rw is_first (tells s b.start b.n first o.point_data_record_length o.number_of_point_records b.within near k h)
 
-  pub at_the_end : (next_of s (walked b.n s c)).has ≡ false
+  pub at_the_end : next_of s (walked b.n s c) ≡ None
   at_the_end = rw is_first (stops s b.start b.n first o.point_data_record_length o.number_of_point_records b.within near)

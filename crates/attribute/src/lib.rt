@@ -3,12 +3,11 @@
 #![tactic(auto)]
 
 ghost use Rattle.std.specs.Prelude.{◌≡◌, ◌+◌, ◌*◌, ◌≤◌, leb, length};
-ghost use Rattle.attribute.specs.Attributes.{size_at, types_known, sizes_of, described_in, begun_in, begun_of, ended, next_of};
+ghost use Rattle.attribute.specs.Attributes.{size_at, types_known, sizes_of, described_in, begun_in, begun_of, next_of};
 ghost use Rattle.attribute.specs.Find.{Ready, named_from, searched_in, found_of};
 
-use first_vlr::{FirstVlr, Opened};
 use outline::Outline;
-use refusal::Refusal;
+use refusal::{Refusal, Refused};
 
 // A value of every point: its type, 0 to 10, and its bytes; where the first point's stands in the file, and how far the next point's is
 // from there; the points of the file.
@@ -31,76 +30,58 @@ pub struct Attributes {
     pub count: u64,
 }
 
-// The place before the first attribute, or why there is none, with the record number of the file check's refusal.
-#[derive(Clone, Copy)]
-pub enum Begun {
-    At(Attributes),
-    Refused { refusal: Refusal, record: u64 },
-}
-
-// An attribute, where its descriptor stands in the file, and the place after it; without an attribute, an empty one and the place as it
-// was.
+// An attribute, where its descriptor stands in the file, and the place after it.
 #[derive(Clone, Copy)]
 pub struct Step {
-    pub has: bool,
     pub attribute: Attribute,
     pub descriptor: usize,
     pub next: Attributes,
 }
 
-// An attribute, or why there is none, with the record number of the file check's refusal.
-#[derive(Clone, Copy)]
-pub enum Found {
-    Is(Attribute),
-    Refused { refusal: Refusal, record: u64 },
-}
-
 // Among some descriptors, where one with a name stands, and the bytes of the values before its own.
 #[derive(Clone, Copy)]
-enum Named {
-    At { descriptor: usize, place: usize },
-    Nothing,
+struct Named {
+    descriptor: usize,
+    place: usize,
 }
 
 // The place before the first attribute of the file. Refused with the file check's refusal; 37 where no VLR has the descriptors; 38 where
 // its data is not a multiple of 192 bytes; 39 where one of them has a type above 10; 40 where all their values together are longer than
 // the extra bytes.
-pub fn begin(file: &[u8], allowance: u64) -> Begun
+pub fn begin(file: &[u8], allowance: u64) -> Result<Attributes, Refused>
     ensures { result ≡ begun_of allowance file.now }
 {
-    match first_vlr::open(file, allowance) {
-        Opened::File(o) => begin_in(file, o),
-        Opened::Refused { refusal, record } => Begun::Refused { refusal, record },
-    }
+    let o = first_vlr::open(file, allowance)?;
+    begin_in(file, o)
 }
 
 // The same of an accepted file with this outline.
-fn begin_in(file: &[u8], o: Outline) -> Begun
+fn begin_in(file: &[u8], o: Outline) -> Result<Attributes, Refused>
     ensures { result ≡ begun_in o file.now }
 {
-    match first_vlr::first(file, o, b"LASF_Spec", 4) {
-        FirstVlr::At { start, length } => judge(&file[start..start + length], start, o),
-        FirstVlr::Nothing => refused(Refusal::NoDescriptors),
-    }
+    let Some(span) = first_vlr::first(file, o, b"LASF_Spec", 4) else {
+        return Err(Refusal::NoDescriptors.into());
+    };
+    judge(&file[span.start..span.start + span.length], span.start, o)
 }
 
 // The same by the data of the VLR, which starts there in the file.
-fn judge(data: &[u8], start: usize, o: Outline) -> Begun
+fn judge(data: &[u8], start: usize, o: Outline) -> Result<Attributes, Refused>
     ensures { result ≡ described_in o start «data».now }
 {
     if data.len() % 192 != 0 {
-        return refused(Refusal::DescriptorBytes);
+        return Err(Refusal::DescriptorBytes.into());
     }
     let count = data.len() / 192;
     if !types_known(data, count) {
-        return refused(Refusal::DataType);
+        return Err(Refusal::DataType.into());
     }
     let format = file::point_format(o);
     if !sizes_fit(data, count, format.extra_bytes as usize) {
-        return refused(Refusal::AttributeSizes);
+        return Err(Refusal::AttributeSizes.into());
     }
     let at = (o.offset_to_point_data as usize) + layout::places_for(format).extra_bytes;
-    Begun::At(Attributes {
+    Ok(Attributes {
         descriptor: start,
         left: count,
         at,
@@ -109,26 +90,15 @@ fn judge(data: &[u8], start: usize, o: Outline) -> Begun
     })
 }
 
-// A refusal with no record.
-fn refused(refusal: Refusal) -> Begun
-    ensures { result ≡ Begun.Refused refusal 0 }
-{
-    Begun::Refused { refusal, record: 0 }
-}
-
 // Whether all of `count` descriptors have a type that is known.
 fn types_known(data: &[u8], count: usize) -> bool
     requires { count * 192 ≤ length «data».now }
     ensures { result ≡ types_known count «data».now }
 {
-    let mut at: usize = 0;
-    let mut left = count;
-    while left > 0 {
-        if le::u8_at(data, at + 2) > 10 {
+    for i in 0..count {
+        if le::u8_at(data, i * 192 + 2) > 10 {
             return false;
         }
-        at += 192;
-        left -= 1;
     }
     true
 }
@@ -138,17 +108,13 @@ fn sizes_fit(data: &[u8], count: usize, room: usize) -> bool
     requires { count * 192 ≤ length «data».now }
     ensures { result ≡ leb (sizes_of count «data».now) room }
 {
-    let mut at: usize = 0;
-    let mut left = count;
     let mut room = room;
-    while left > 0 {
-        let size = size_at(data, at);
+    for i in 0..count {
+        let size = size_at(data, i * 192);
         if room < size {
             return false;
         }
         room -= size;
-        at += 192;
-        left -= 1;
     }
     true
 }
@@ -161,26 +127,25 @@ fn size_at(s: &[u8], at: usize) -> usize
     descriptor::size(le::u8_at(s, at + 2), le::u8_at(s, at + 3)) as usize
 }
 
-// The attribute at the place, and the place after it. After the last, and at a place that no file has, there is none, and the place stays.
-pub fn next(file: &[u8], c: Attributes) -> Step
+// The attribute at the place, and the place after it. After the last, and at a place that no file has, there is none.
+pub fn next(file: &[u8], c: Attributes) -> Option<Step>
     ensures { result ≡ next_of file.now c }
 {
     let descriptor = c.descriptor;
     if c.left == 0 {
-        return ended(c);
+        return None;
     }
     if file.len() < 192 {
-        return ended(c);
+        return None;
     }
     if file.len() - 192 < descriptor {
-        return ended(c);
+        return None;
     }
     if c.at > 9223372036854775807 {
-        return ended(c);
+        return None;
     }
     let size = size_at(file, descriptor);
-    Step {
-        has: true,
+    Some(Step {
         attribute: Attribute {
             data_type: le::u8_at(file, descriptor + 2),
             size,
@@ -196,82 +161,54 @@ pub fn next(file: &[u8], c: Attributes) -> Step
             stride: c.stride,
             count: c.count,
         },
-    }
-}
-
-// No attribute.
-fn ended(c: Attributes) -> Step
-    ensures { result ≡ ended c }
-{
-    Step {
-        has: false,
-        attribute: Attribute {
-            data_type: 0,
-            size: 0,
-            at: 0,
-            stride: 0,
-            count: 0,
-        },
-        descriptor: 0,
-        next: c,
-    }
+    })
 }
 
 // The first attribute with this name, which zeros fill to 32 bytes. Refused as `begin` says, then with 41 where there is none.
-pub fn find(file: &[u8], allowance: u64, name: &[u8]) -> Found
+pub fn find(file: &[u8], allowance: u64, name: &[u8]) -> Result<Attribute, Refused>
     ensures { result ≡ found_of allowance name.now file.now }
 {
-    match begin(file, allowance) {
-        Begun::At(c) => search(file, c, name),
-        Begun::Refused { refusal, record } => Found::Refused { refusal, record },
-    }
+    let c = begin(file, allowance)?;
+    search(file, c, name)
 }
 
 // The same from a place in the file on.
-fn search(file: &[u8], c: Attributes, name: &[u8]) -> Found
+fn search(file: &[u8], c: Attributes, name: &[u8]) -> Result<Attribute, Refused>
     requires { Ready c file.now }
     ensures { result ≡ searched_in name.now c file.now }
 {
     let from = c.descriptor;
     let to = from + c.left * 192;
-    match named_in(&file[from..to], c.left, name) {
-        Named::At { descriptor, place } => {
-            let at = from + descriptor;
-            Found::Is(Attribute {
-                data_type: le::u8_at(file, at + 2),
-                size: size_at(file, at),
-                at: c.at + place,
-                stride: c.stride,
-                count: c.count,
-            })
-        }
-        Named::Nothing => Found::Refused {
-            refusal: Refusal::NameNotFound,
-            record: 0,
-        },
-    }
+    let Some(named) = named_in(&file[from..to], c.left, name) else {
+        return Err(Refusal::NameNotFound.into());
+    };
+    let at = from + named.descriptor;
+    Ok(Attribute {
+        data_type: le::u8_at(file, at + 2),
+        size: size_at(file, at),
+        at: c.at + named.place,
+        stride: c.stride,
+        count: c.count,
+    })
 }
 
 // The first of `count` descriptors with this name.
-fn named_in(data: &[u8], count: usize, name: &[u8]) -> Named
+fn named_in(data: &[u8], count: usize, name: &[u8]) -> Option<Named>
     requires { (count * 192 ≤ length «data».now) × (sizes_of count «data».now ≤ 65535) }
     ensures { result ≡ named_from name.now count 0 0 «data».now }
 {
-    let mut at: usize = 0;
     let mut place: usize = 0;
-    let mut left = count;
-    while left > 0 {
+    for i in 0..count {
+        let at = i * 192;
         let from = at + 4;
         let to = at + 36;
         if names::is_named(&data[from..to], name) {
-            return Named::At {
+            return Some(Named {
                 descriptor: at,
                 place,
-            };
+            });
         }
         place += size_at(data, at);
-        at += 192;
-        left -= 1;
     }
-    Named::Nothing
+    None
 }

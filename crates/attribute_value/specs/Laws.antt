@@ -1,4 +1,6 @@
 -- Laws of values: what each test says, and the number that the first bytes of a value are.
+use Rattle.std.specs.Prelude.{Ok, Err}
+use Rattle.refusal.specs.Refused.{at_record}
 use Rattle.std.specs.Prelude.{ℕ, ◌+◌, ◌*◌, ◌-◌, ◌≤◌, ◌<◌, min, Bool, List, [], leb, length, take, drop}
 use Rattle.std.proofs.Math.Path.{◌≡◌, refl}
 use Rattle.std.proofs.Common.{ap, ◌∙◌, mul-zero, add-zero, add-mul, mul-le-mul_right, arith}
@@ -10,12 +12,10 @@ use Rattle.le.specs.Le.{le, num}
 use Rattle.le.specs.Laws.{le-add, drop-take, num-take, num_past}
 use Rattle.refusal.specs.declared.Refusal.{Refusal}
 use Rattle.refusal.specs.declared.Refusal.TheVariants.{NoRoom, Index}
-use Rattle.column.specs.declared.Filled.TheVariants.{Entries, Refused}
 use Rattle.column.specs.Column.{same, within, firsts, filled_of}
 use Rattle.column.specs.Exact.{Within}
 use Rattle.column.specs.Stretch.{inside, inside_says, outside}
 use Rattle.attribute.specs.declared.Attribute.{Attribute}
-use Rattle.attribute_value.specs.declared.Placed.TheVariants as placed
 use Rattle.attribute_value.specs.Value.{value_at, lies, placed_of, bytes_of}
 use Rattle.attribute_value.specs.Many.{Stand, all_lie, column_of}
 
@@ -65,27 +65,27 @@ module _ (a : Attribute) (point : ℕ) (s : List ℕ) where
       go false e = refl
 
   -- and by it the answers
-  pub placed_at : lies a point s ≡ true → placed_of a point s ≡ placed.At (value_at a point)
+  pub placed_at : lies a point s ≡ true → placed_of a point s ≡ Ok (value_at a point)
   unfolding placed_of
   placed_at e = rw e
 
-  pub not-placed : lies a point s ≡ false → placed_of a point s ≡ placed.Refused (Index a.count)
+  pub not-placed : lies a point s ≡ false → placed_of a point s ≡ Err (Index a.count)
   unfolding placed_of
   not-placed e = rw e
 
-  pub placed_says : {at : ℕ} → placed_of a point s ≡ placed.At at → (lies a point s ≡ true) × (at ≡ value_at a point)
+  pub placed_says : {at : ℕ} → placed_of a point s ≡ Ok at → (lies a point s ≡ true) × (at ≡ value_at a point)
   unfolding placed_of
   placed_says {at} = go (lies a point s)
     where
-      go : (b : Bool) → cond b (placed.At (value_at a point)) (placed.Refused (Index a.count)) ≡ placed.At at → (b ≡ true) × (at ≡ value_at a point)
+      go : (b : Bool) → cond b (Ok (value_at a point)) (Err (Index a.count)) ≡ Ok at → (b ≡ true) × (at ≡ value_at a point)
       go true e = (refl, cc)
       go false e = let z : ◌≡◌ {A = ℕ} 0 1 = cc in absurd (omega arith)
 
-  pub refused_says : {r : Refusal} → placed_of a point s ≡ placed.Refused r → lies a point s ≡ false
+  pub refused_says : {r : Refusal} → placed_of a point s ≡ Err r → lies a point s ≡ false
   unfolding placed_of
   refused_says {r} = go (lies a point s)
     where
-      go : (b : Bool) → cond b (placed.At (value_at a point)) (placed.Refused (Index a.count)) ≡ placed.Refused r → b ≡ false
+      go : (b : Bool) → cond b (Ok (value_at a point)) (Err (Index a.count)) ≡ Err r → b ≡ false
       go true e = let z : ◌≡◌ {A = ℕ} 0 1 = cc in absurd (omega arith)
       go false e = refl
 
@@ -123,21 +123,21 @@ module _ (a : Attribute) (first count : ℕ) (s : List ℕ) where
     by_last e = rw (inside first count a.count inner, ne_eqb _ _ e)
 
   module _ (d : List ℕ) where
-    pub not-all : all_lie a first count s ≡ false → column_of a first count s d ≡ (Refused (Index a.count) 0, d)
+    pub not-all : all_lie a first count s ≡ false → column_of a first count s d ≡ (Err (at_record (Index a.count) 0), d)
     unfolding column_of
     not-all e = rw e
 
     module _ (all : all_lie a first count s ≡ true) where
-      pub no_room : length d < count → column_of a first count s d ≡ (Refused (NoRoom count) 0, d)
+      pub no_room : length d < count → column_of a first count s d ≡ (Err (at_record (NoRoom count) 0), d)
       unfolding column_of
       no_room h = rw (all, lt-ltb _ _ h)
 
-      pub filled : count ≤ length d → column_of a first count s d ≡ (Entries count, filled_of same (min a.size 8) (value_at a first) a.stride count s d)
+      pub filled : count ≤ length d → column_of a first count s d ≡ (Ok count, filled_of same (min a.size 8) (value_at a first) a.stride count s d)
       unfolding column_of
       filled h = rw (all, le-ltb _ _ h)
 
       -- none is filled where none is asked for
-      pub none : count ≡ 0 → column_of a first count s d ≡ (Entries count, d)
+      pub none : count ≡ 0 → column_of a first count s d ≡ (Ok count, d)
       unfolding filled_of firsts
       none e = filled (omega arith) ∙ rw e
 

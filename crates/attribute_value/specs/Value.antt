@@ -1,10 +1,10 @@
 -- An attribute's value in a point: document 02, No. 8, "give its value in any point with the bits as stored".
+use Rattle.std.specs.Prelude.{Result, Ok, Err}
+use Rattle.refusal.specs.declared.Refusal.{Refusal}
 use Rattle.std.specs.Prelude.{ℕ, ◌+◌, ◌*◌, ◌-◌, Bool, cond, ◌&&◌, List, [], ltb, leb, length, take, drop}
 use Rattle.le.specs.Le.{num}
 use Rattle.refusal.specs.declared.Refusal.TheVariants.{Index}
 use Rattle.attribute.specs.declared.Attribute.{Attribute}
-use Rattle.attribute_value.specs.declared.Placed.{Placed}
-use Rattle.attribute_value.specs.declared.Placed.TheVariants.{At, Refused}
 
 -- where the value of a point begins, the first point being 1
 abbrev pub value_at : Attribute → ℕ → ℕ
@@ -17,8 +17,8 @@ lies a point s =
     && (leb a.stride 65535 && (ltb 0 point && (leb point a.count && leb (value_at a point + a.size) (length s))))
 
 -- "index (27)", with the point count
-unfoldable pub placed_of : Attribute → ℕ → List ℕ → Placed
-placed_of a point s = cond (lies a point s) (At (value_at a point)) (Refused (Index a.count))
+unfoldable pub placed_of : Attribute → ℕ → List ℕ → Result ℕ Refusal
+placed_of a point s = cond (lies a point s) (Ok (value_at a point)) (Err (Index a.count))
 
 -- the value's bytes, "as stored"; none where it is refused
 unfoldable pub bytes_of : Attribute → ℕ → List ℕ → List ℕ

@@ -2,38 +2,29 @@
 #![tactic(auto)]
 
 ghost use Rattle.std.specs.Prelude.{◌≡◌, ◌+◌, ◌*◌, ◌≤◌, ◌<◌, min, leb, length};
-ghost use Rattle.column.specs.declared.Filled.TheVariants as filled;
 ghost use Rattle.column.specs.Column.{same, filled_of};
 ghost use Rattle.attribute_value.specs.Value.{lies, placed_of, bytes_of, bits_of};
 ghost use Rattle.attribute_value.specs.Many.{Stand, all_lie, column_of};
 
 use attribute::Attribute;
-use column::Filled;
-use refusal::Refusal;
-
-// Where a value begins in the file, or 27 with the point count.
-#[derive(Clone, Copy)]
-pub enum Placed {
-    At(usize),
-    Refused(Refusal),
-}
+use refusal::{Refusal, Refused};
 
 // Where the value of the point of this number begins, the first being 1. Refused with 27 where there is no such point, and where the
 // value would not lie in the file, as it does for every attribute that was found there.
-pub fn place(file: &[u8], a: Attribute, point: u64) -> Placed
+pub fn place(file: &[u8], a: Attribute, point: u64) -> Result<usize, Refusal>
     ensures { result ≡ placed_of a point file.now }
 {
     if !lies(file, a, point) {
-        return Placed::Refused(Refusal::Index(a.count));
+        return Err(Refusal::Index(a.count));
     }
-    Placed::At(a.at + ((point - 1) as usize) * a.stride)
+    Ok(a.at + ((point - 1) as usize) * a.stride)
 }
 
 // The value's bytes as that part of the file; none where it is refused.
 pub fn bytes(file: &[u8], a: Attribute, point: u64) -> &[u8]
     ensures { result.now ≡ bytes_of a point file.now }
 {
-    let Placed::At(from) = place(file, a, point) else {
+    let Ok(from) = place(file, a, point) else {
         return &file[..0];
     };
     let to = from + a.size;
@@ -83,28 +74,27 @@ fn ends_by(most: usize, at: usize, stride: usize, n: u64) -> bool
 // The first eight bytes of the values of `count` points from point number `first` on, as numbers, to the front of dst, what lies past
 // them staying; the answer is the count. Refused with 27 where they are not all points of the file, or their values do not lie in it;
 // then with 22 and the count where dst is shorter; and dst stays as it was.
-pub fn column(file: &[u8], a: Attribute, first: u64, count: u64, dst: &mut [u64]) -> Filled
+pub fn column(
+    file: &[u8],
+    a: Attribute,
+    first: u64,
+    count: u64,
+    dst: &mut [u64],
+) -> Result<u64, Refused>
     ensures { (result, dst.new) ≡ column_of a first count file.now dst.old }
 {
     if !all_lie(file, a, first, count) {
-        return refused(Refusal::Index(a.count));
+        return Err(Refusal::Index(a.count).into());
     }
     if (dst.len() as u64) < count {
-        return refused(Refusal::NoRoom(count));
+        return Err(Refusal::NoRoom(count).into());
     }
     if count == 0 {
-        return Filled::Entries(0);
+        return Ok(0);
     }
     let from = a.at + ((first - 1) as usize) * a.stride;
     fill(file, from, a.stride, shown(a.size), count as usize, dst);
-    Filled::Entries(count)
-}
-
-// A refusal with no record.
-fn refused(refusal: Refusal) -> Filled
-    ensures { result ≡ filled.Refused refusal 0 }
-{
-    Filled::Refused { refusal, record: 0 }
+    Ok(count)
 }
 
 // Whether `count` points from number `first` on are points of the file, and their values lie in it.
@@ -134,6 +124,7 @@ fn shown(size: usize) -> usize
 }
 
 // The numbers of `width` bytes that stand in s from `first` on, each `stride` bytes after the one before it, to the front of dst, n of them.
+// Stays: the width of an attribute is told when the program runs, and that of a column by the type of its entries.
 fn fill(s: &[u8], first: usize, stride: usize, width: usize, n: usize, dst: &mut [u64])
     requires { Stand width first stride n s.now × (n ≤ length dst.old) }
     ensures { dst.new ≡ filled_of same width first stride n s.now dst.old }

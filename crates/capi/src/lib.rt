@@ -14,8 +14,8 @@ ghost use Rattle.words.specs.Words.{angle_of, angle_word, direction_word, flags_
 ghost use Rattle.capi.specs.Rows.{new_row, len_row, code_row, two_row};
 
 use angle::ScanAngle;
-use flags::{Flags, ScanDirection, TwoBytes};
-use format::{Format, FormatCode, FormatLen, NewFormat};
+use flags::{Flags, ScanDirection};
+use format::Format;
 
 // ---- formats
 
@@ -24,8 +24,8 @@ pub fn las_format_new(code: u8, row: &mut [u64; 3])
     ensures { row.new ≡ new_row (format_of code) }
 {
     match Format::new(code) {
-        NewFormat::Is(format) => words::tell(row, 0, words::format_word(format) as u64, 0),
-        NewFormat::Refused(refusal) => words::refuse(row, refusal, 0),
+        Ok(format) => words::tell(row, 0, words::format_word(format) as u64, 0),
+        Err(refusal) => words::refuse(row, refusal, 0),
     }
 }
 
@@ -41,8 +41,8 @@ pub fn las_format_len(format: u32, row: &mut [u64; 3])
     ensures { row.new ≡ len_row (len_of (format_of_word format)) }
 {
     match words::format_of(format).len() {
-        FormatLen::Is(n) => words::tell(row, 0, n as u64, 0),
-        FormatLen::Refused(refusal) => words::refuse(row, refusal, 0),
+        Ok(n) => words::tell(row, 0, n as u64, 0),
+        Err(refusal) => words::refuse(row, refusal, 0),
     }
 }
 
@@ -51,8 +51,8 @@ pub fn las_format_to_u8(format: u32, row: &mut [u64; 3])
     ensures { row.new ≡ code_row (code_of (format_of_word format)) }
 {
     match words::format_of(format).to_u8() {
-        FormatCode::Is(n) => words::tell(row, 0, n as u64, 0),
-        FormatCode::Refused(refusal) => words::refuse(row, refusal, 0),
+        Ok(n) => words::tell(row, 0, n as u64, 0),
+        Err(refusal) => words::refuse(row, refusal, 0),
     }
 }
 
@@ -157,8 +157,8 @@ pub fn las_flags_to_two_bytes(flags: u32, row: &mut [u64; 3])
     ensures { row.new ≡ two_row (two_bytes_of (flags_of flags)) }
 {
     match words::flags_of(flags).to_two_bytes() {
-        TwoBytes::Bytes(a, b) => words::tell(row, 0, (a as u64) + (b as u64) * 256, 0),
-        TwoBytes::Refused(refusal) => words::refuse(row, refusal, 0),
+        Ok((a, b)) => words::tell(row, 0, (a as u64) + (b as u64) * 256, 0),
+        Err(refusal) => words::refuse(row, refusal, 0),
     }
 }
 
@@ -181,7 +181,7 @@ pub fn las_flags_clear_overlap_class(flags: u32) -> u32
 pub fn las_flags_eq(flags: u32, other: u32) -> bool
     ensures { result ≡ same_of (flags_of flags) (flags_of other) }
 {
-    words::flags_of(flags).eq(words::flags_of(other))
+    words::flags_of(flags) == words::flags_of(other)
 }
 
 // Two zero bytes.
@@ -246,7 +246,7 @@ pub fn las_angle_from_degrees(degrees: f32) -> u32
 pub fn las_angle_eq(angle: u32, other: u32) -> bool
     ensures { result ≡ same_angle (angle_of angle) (angle_of other) }
 {
-    words::angle_of(angle).eq(words::angle_of(other))
+    words::angle_of(angle) == words::angle_of(other)
 }
 
 // Rank 0.

@@ -1,11 +1,13 @@
 -- The append's answers as rows.
+use Rattle.std.specs.Prelude.{Option, Some, None, Result, Ok, Err}
+use Rattle.refusal.specs.declared.Refused.{Refused}
+use Rattle.sectors.specs.declared.Sector.{Sector}
+use Rattle.refusal.specs.declared.Refusal.{Refusal}
 use Rattle.std.specs.Prelude.{ℕ, ◌%◌, List, [], ◌∷◌, get_or}
 use Rattle.words.specs.Rows.{refused_row}
 use Rattle.offer.specs.declared.Sweep.{Sweep}
 use Rattle.offer.specs.declared.Offer.{Offer}
 use Rattle.offer.specs.declared.Offer.TheVariants as offer
-use Rattle.sectors.specs.declared.Stored.{Stored}
-use Rattle.sectors.specs.declared.Stored.TheVariants as stored
 use Rattle.append.specs.declared.Appended.{Appended}
 use Rattle.append.specs.declared.Appended.TheVariants as appended
 
@@ -31,19 +33,19 @@ sweep_from n =
     }
 
 -- added 0, already in 1; the file beside it
-abbrev pub appended_row : Appended × List ℕ → List ℕ × List ℕ
-appended_row (appended.Added, s) = (ok 0, s)
-appended_row (appended.AlreadyIn, s) = (ok 1, s)
-appended_row (appended.Refused r k, s) = (refused_row r k, s)
+abbrev pub appended_row : Result Appended Refused × List ℕ → List ℕ × List ℕ
+appended_row (Ok appended.Added, s) = (ok 0, s)
+appended_row (Ok appended.AlreadyIn, s) = (ok 1, s)
+appended_row (Err err, s) = (refused_row err.refusal err.«record», s)
 
 -- to be added 0, with the sweep's numbers; already in 1 and refusals leave these
-abbrev pub begun_row : Offer → List ℕ → List ℕ × List ℕ
-begun_row (offer.Add w) d = (ok 0, sweep_numbers w)
-begun_row offer.AlreadyIn d = (ok 1, d)
-begun_row (offer.Refused r k) d = (refused_row r k, d)
+abbrev pub begun_row : Result Offer Refused → List ℕ → List ℕ × List ℕ
+begun_row (Ok (offer.Add w)) d = (ok 0, sweep_numbers w)
+begun_row (Ok offer.AlreadyIn) d = (ok 1, d)
+begun_row (Err err) d = (refused_row err.refusal err.«record», d)
 
 -- a sector's place and bytes, two zeros past the last store; the file beside them
-abbrev pub stored_row : Stored × List ℕ → List ℕ → List ℕ × (List ℕ × List ℕ)
-stored_row (stored.Sector at len, s) d = (ok len, (at ∷ len ∷ [], s))
-stored_row (stored.Done, s) d = (ok 0, (0 ∷ 0 ∷ [], s))
-stored_row (stored.Refused r, s) d = (refused_row r 0, (d, s))
+abbrev pub stored_row : Result (Option Sector) Refusal × List ℕ → List ℕ → List ℕ × (List ℕ × List ℕ)
+stored_row (Ok (Some sector), s) d = (ok sector.len, (sector.at ∷ sector.len ∷ [], s))
+stored_row (Ok None, s) d = (ok 0, (0 ∷ 0 ∷ [], s))
+stored_row (Err r, s) d = (refused_row r 0, (d, s))

@@ -10,7 +10,7 @@ ghost use Rattle.capi_append.specs.Rows.{sweep_from, appended_row, begun_row, st
 
 use append::Appended;
 use offer::{Offer, Sweep};
-use sectors::Stored;
+use refusal::Refused;
 
 // Adds n records to the file, all stores one after the other; the row's value is 0 where they are added and 1 where they are already in.
 #[unsafe(no_mangle)]
@@ -26,9 +26,9 @@ pub extern "C" fn las_append(
     ensures { (row.new, file.new) ≡ appended_row (appended_of allowance records.now n bounds.now believed file.old) }
 {
     match append::append(file, allowance, records, n, *bounds, believed) {
-        Appended::Added => words::tell(row, 0, 0, 0),
-        Appended::AlreadyIn => words::tell(row, 0, 1, 0),
-        Appended::Refused { refusal, record } => words::refuse(row, refusal, record),
+        Ok(Appended::Added) => words::tell(row, 0, 0, 0),
+        Ok(Appended::AlreadyIn) => words::tell(row, 0, 1, 0),
+        Err(refused) => words::refuse(row, refused.refusal, refused.record),
     }
 }
 
@@ -47,7 +47,7 @@ pub extern "C" fn las_append_begin(
     ensures { (row.new, sweep.new) ≡ begun_row (offer_of allowance records.now n believed file.now) sweep.old }
 {
     match offer::judge(file, allowance, records, n, believed) {
-        Offer::Add(w) => {
+        Ok(Offer::Add(w)) => {
             *sweep = [
                 w.at,
                 w.bytes,
@@ -60,8 +60,8 @@ pub extern "C" fn las_append_begin(
             ];
             words::tell(row, 0, 0, 0)
         }
-        Offer::AlreadyIn => words::tell(row, 0, 1, 0),
-        Offer::Refused { refusal, record } => words::refuse(row, refusal, record),
+        Ok(Offer::AlreadyIn) => words::tell(row, 0, 1, 0),
+        Err(refused) => words::refuse(row, refused.refusal, refused.record),
     }
 }
 
@@ -88,15 +88,15 @@ pub extern "C" fn las_append_store(
     ensures { (row.new, (sector.new, file.new)) ≡ stored_row (stored_of (sweep_from sweep.now) records.now bounds.now k file.old) sector.old }
 {
     match sectors::store(file, sweep_of(sweep), records, *bounds, k) {
-        Stored::Sector { at, len } => {
-            *sector = [at, len];
-            words::tell(row, 0, len, 0)
+        Ok(Some(told)) => {
+            *sector = [told.at, told.len];
+            words::tell(row, 0, told.len, 0)
         }
-        Stored::Done => {
+        Ok(None) => {
             *sector = [0, 0];
             words::tell(row, 0, 0, 0)
         }
-        Stored::Refused(refusal) => words::refuse(row, refusal, 0),
+        Err(refusal) => words::refuse(row, refusal, 0),
     }
 }
 

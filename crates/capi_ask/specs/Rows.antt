@@ -1,10 +1,10 @@
 -- The rows of questions.
-use Rattle.std.specs.Prelude.{ℕ, List, [], ◌∷◌}
+use Rattle.std.specs.Prelude.{Result, Ok, Err, ℕ, List, [], ◌∷◌}
+use Rattle.judge.specs.declared.Run.{Run}
+use Rattle.refusal.specs.declared.Refused.{Refused}
 use Rattle.words.specs.Rows.{refused_row}
-use Rattle.judge.specs.declared.Verdict.{Verdict}
-use Rattle.judge.specs.declared.Verdict.TheVariants as verdict
 
 -- the count of bytes needed, or the refusal with its record number
-abbrev pub asked_row : Verdict → List ℕ
-asked_row (verdict.Goes p n) = 0 ∷ n ∷ 0 ∷ []
-asked_row (verdict.Refused r k) = refused_row r k
+abbrev pub asked_row : Result Run Refused → List ℕ
+asked_row (Ok run) = 0 ∷ run.bytes ∷ 0 ∷ []
+asked_row (Err err) = refused_row err.refusal err.«record»

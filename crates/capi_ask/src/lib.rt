@@ -7,7 +7,8 @@ ghost use Rattle.std.specs.Prelude.{◌≡◌};
 ghost use Rattle.judge.specs.Judge.{old_verdict, new_verdict};
 ghost use Rattle.capi_ask.specs.Rows.{asked_row};
 
-use judge::Verdict;
+use judge::Run;
+use refusal::Refused;
 
 // Whether a run goes strictly to the old format of its pair, and the bytes that it needs there.
 pub fn las_convert_ask_old(src: &[u8], format: u8, extra: u16, count: u64, row: &mut [u64; 3])
@@ -24,11 +25,11 @@ pub fn las_convert_ask_new(src: &[u8], format: u8, extra: u16, count: u64, row: 
 }
 
 // The row of a verdict.
-pub fn tell(verdict: Verdict, row: &mut [u64; 3])
+pub fn tell(verdict: Result<Run, Refused>, row: &mut [u64; 3])
     ensures { row.new ≡ asked_row verdict }
 {
     match verdict {
-        Verdict::Goes { plan: _, bytes } => words::tell(row, 0, bytes as u64, 0),
-        Verdict::Refused { refusal, record } => words::refuse(row, refusal, record),
+        Ok(run) => words::tell(row, 0, run.bytes as u64, 0),
+        Err(refused) => words::refuse(row, refused.refusal, refused.record),
     }
 }

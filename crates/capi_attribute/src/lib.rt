@@ -13,9 +13,8 @@ ghost use Rattle.attribute_value.specs.Many.{column_of};
 ghost use Rattle.capi_column.specs.Rows.{told_of};
 ghost use Rattle.capi_attribute.specs.Rows.{attribute_numbers, attribute_from, place_numbers, place_from, begun_row, next_row, found_row, value_row, first_by, first_row};
 
-use attribute::{Attribute, Attributes, Begun, Found};
-use attribute_value::Placed;
-use first_vlr::{FirstVlr, Opened};
+use attribute::{Attribute, Attributes};
+use first_vlr::Span;
 
 // The place before the first attribute of the file; the row's value is how many there are. A refusal leaves the place.
 #[unsafe(no_mangle)]
@@ -28,11 +27,11 @@ pub extern "C" fn las_attributes(
     ensures { (row.new, attributes.new) ≡ begun_row attributes.old (begun_of allowance file.now) }
 {
     match attribute::begin(file, allowance) {
-        Begun::At(c) => {
+        Ok(c) => {
             *attributes = place_numbers(c);
             words::tell(row, 0, c.left as u64, 0)
         }
-        Begun::Refused { refusal, record } => words::refuse(row, refusal, record),
+        Err(refused) => words::refuse(row, refused.refusal, refused.record),
     }
 }
 
@@ -47,16 +46,13 @@ pub extern "C" fn las_attributes_next(
 ) -> bool
     ensures { (result, attributes.new, attribute.new, span.new) ≡ next_row file.now attributes.old attribute.old span.old }
 {
-    let step = attribute::next(file, place_from(attributes));
-    if step.has {
-        let told = step.attribute;
-        let next = step.next;
-        *attributes = place_numbers(next);
-        *attribute = attribute_numbers(told);
-        *span = [step.descriptor as u64, 192];
-        return true;
-    }
-    false
+    let Some(step) = attribute::next(file, place_from(attributes)) else {
+        return false;
+    };
+    *attributes = place_numbers(step.next);
+    *attribute = attribute_numbers(step.attribute);
+    *span = [step.descriptor as u64, 192];
+    true
 }
 
 // The first attribute with this name. A refusal leaves the attribute.
@@ -71,11 +67,11 @@ pub extern "C" fn las_attribute_find(
     ensures { (row.new, attribute.new) ≡ found_row attribute.old (found_of allowance name.now file.now) }
 {
     match attribute::find(file, allowance, name) {
-        Found::Is(a) => {
+        Ok(a) => {
             *attribute = attribute_numbers(a);
             words::tell(row, 0, 0, 0)
         }
-        Found::Refused { refusal, record } => words::refuse(row, refusal, record),
+        Err(refused) => words::refuse(row, refused.refusal, refused.record),
     }
 }
 
@@ -93,11 +89,11 @@ pub extern "C" fn las_attribute_value(
 {
     let a = attribute_from(attribute);
     match attribute_value::place(file, a, point) {
-        Placed::At(at) => {
+        Ok(at) => {
             *span = [at as u64, a.size as u64];
             words::tell(row, 0, attribute_value::bits(file, a, point), 0)
         }
-        Placed::Refused(refusal) => words::refuse(row, refusal, 0),
+        Err(refusal) => words::refuse(row, refusal, 0),
     }
 }
 
@@ -131,21 +127,21 @@ pub extern "C" fn las_vlr_first(
     ensures { (row.new, span.new) ≡ first_row user.now record_id file.now span.old (opened_of allowance file.now) }
 {
     match first_vlr::open(file, allowance) {
-        Opened::File(o) => tell_first(first_vlr::first(file, o, user, record_id), span, row),
-        Opened::Refused { refusal, record } => words::refuse(row, refusal, record),
+        Ok(o) => tell_first(first_vlr::first(file, o, user, record_id), span, row),
+        Err(refused) => words::refuse(row, refused.refusal, refused.record),
     }
 }
 
 // What there is of such a VLR in an accepted file.
-fn tell_first(first: FirstVlr, span: &mut [u64; 2], row: &mut [u64; 3])
+fn tell_first(first: Option<Span>, span: &mut [u64; 2], row: &mut [u64; 3])
     ensures { (row.new, span.new) ≡ first_by span.old first }
 {
     match first {
-        FirstVlr::At { start, length } => {
-            *span = [start as u64, length as u64];
+        Some(part) => {
+            *span = [part.start as u64, part.length as u64];
             words::tell(row, 0, 1, 0)
         }
-        FirstVlr::Nothing => words::tell(row, 0, 0, 0),
+        None => words::tell(row, 0, 0, 0),
     }
 }
 

@@ -12,7 +12,8 @@ ghost use Rattle.column.specs.Column.{same, real, column_of};
 ghost use Rattle.column_xyz.specs.Xyz.{xyz_of};
 ghost use Rattle.capi_column.specs.Rows.{filled_row, told_of};
 
-use column::{Axis, Channel, Filled};
+use column::{Axis, Channel};
+use refusal::Refused;
 
 // X of a stretch of points, at the front of dst.
 pub fn las_column_x(
@@ -196,11 +197,11 @@ fn channel(
 }
 
 // The row of a column, for this crate and for the columns of attributes.
-pub fn tell(filled: Filled, row: &mut [u64; 3])
+pub fn tell(filled: Result<u64, Refused>, row: &mut [u64; 3])
     ensures { row.new ≡ filled_row filled }
 {
     match filled {
-        Filled::Entries(n) => words::tell(row, 0, n, 0),
-        Filled::Refused { refusal, record } => words::refuse(row, refusal, record),
+        Ok(n) => words::tell(row, 0, n, 0),
+        Err(refused) => words::refuse(row, refused.refusal, refused.record),
     }
 }

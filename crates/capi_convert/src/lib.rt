@@ -6,7 +6,7 @@ ghost use Rattle.std.specs.Prelude.{◌≡◌};
 ghost use Rattle.convert.specs.Run.{to_old_of, to_new_of};
 ghost use Rattle.capi_convert.specs.Rows.{converted_row, told_of};
 
-use convert::Converted;
+use refusal::Refused;
 
 // Converts a run strictly to the old format of its pair, at the front of dst.
 pub fn las_convert_to_old(
@@ -37,11 +37,11 @@ pub fn las_convert_to_new(
 }
 
 // The row of a conversion.
-pub fn tell(converted: Converted, row: &mut [u64; 3])
+pub fn tell(converted: Result<usize, Refused>, row: &mut [u64; 3])
     ensures { row.new ≡ converted_row converted }
 {
     match converted {
-        Converted::Bytes(n) => words::tell(row, 0, n as u64, 0),
-        Converted::Refused { refusal, record } => words::refuse(row, refusal, record),
+        Ok(n) => words::tell(row, 0, n as u64, 0),
+        Err(refused) => words::refuse(row, refused.refusal, refused.record),
     }
 }

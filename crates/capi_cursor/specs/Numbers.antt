@@ -1,4 +1,6 @@
 -- A part as three numbers, a cursor as ten, both ways, and the rows of its calls.
+use Rattle.std.specs.Prelude.{Option, Some, None, Result, Ok, Err}
+use Rattle.refusal.specs.declared.Refused.{Refused}
 use Rattle.std.specs.Prelude.{ℕ, ◌%◌, Bool, true, false, cond, not, List, [], ◌∷◌, eqb, get_or}
 use Rattle.words.specs.Rows.{refused_row}
 use Rattle.cursor.specs.declared.Kind.{Kind}
@@ -8,8 +10,6 @@ use Rattle.cursor.specs.declared.Stage.{Stage}
 use Rattle.cursor.specs.declared.Stage.TheVariants as stage
 use Rattle.cursor.specs.declared.Plan.{Plan}
 use Rattle.cursor.specs.declared.Cursor.{Cursor}
-use Rattle.cursor.specs.declared.Started.{Started}
-use Rattle.cursor.specs.declared.Started.TheVariants as started
 use Rattle.cursor.specs.declared.Step.{Step}
 use Rattle.cursor.specs.Cursor.{step_of}
 
@@ -63,13 +63,14 @@ unfoldable pub cursor_from : List ℕ → Cursor
 cursor_from n = record { stage = stage_from (nth n 0); at = nth n 1; left = nth n 2 % 4294967296; plan = plan_from n }
 
 -- a start's row and the cursor n, which a refusal leaves
-abbrev pub started_row : List ℕ → Started → List ℕ × List ℕ
-started_row n (started.At c) = (0 ∷ 0 ∷ 0 ∷ [], cursor_numbers c)
-started_row n (started.Refused r k) = (refused_row r k, n)
+abbrev pub started_row : List ℕ → Result Cursor Refused → List ℕ × List ℕ
+started_row n (Ok c) = (0 ∷ 0 ∷ 0 ∷ [], cursor_numbers c)
+started_row n (Err err) = (refused_row err.refusal err.«record», n)
 
 -- whether a step has a part, and then the cursor after it and the part in place of n and p
-abbrev pub stepped : Step → List ℕ → List ℕ → Bool × List ℕ × List ℕ
-stepped t n p = cond t.has (true, cursor_numbers t.next, part_numbers t.part) (false, n, p)
+abbrev pub stepped : Option Step → List ℕ → List ℕ → Bool × List ℕ × List ℕ
+stepped None n p = (false, n, p)
+stepped (Some t) n p = (true, cursor_numbers t.next, part_numbers t.part)
 
 unfoldable pub stepped_row : List ℕ → List ℕ → List ℕ → Bool × List ℕ × List ℕ
 stepped_row s n p = stepped (step_of s (cursor_from n)) n p

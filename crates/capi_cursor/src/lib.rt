@@ -10,18 +10,19 @@ ghost use Rattle.std.specs.Prelude.{◌≡◌, cond};
 ghost use Rattle.cursor.specs.Cursor.{started_of};
 ghost use Rattle.capi_cursor.specs.Numbers.{kind_number, part_numbers, stage_number, stage_from, cursor_numbers, cursor_from, started_row, stepped_row};
 
-use cursor::{Cursor, Kind, Part, Plan, Stage, Started};
+use cursor::{Cursor, Kind, Part, Plan, Stage};
+use refusal::Refused;
 
 // The cursor at the first part of the file, after the file check, whose refusals leave the cursor.
 pub fn las_cursor_start(file: &[u8], allowance: u64, numbers: &mut [u64; 10], row: &mut [u64; 3])
     ensures { (row.new, numbers.new) ≡ started_row numbers.old (started_of allowance file.now) }
 {
     match cursor::start(file, allowance) {
-        Started::At(c) => {
+        Ok(c) => {
             *numbers = cursor_numbers(c);
             words::tell(row, 0, 0, 0)
         }
-        Started::Refused { refusal, record } => words::refuse(row, refusal, record),
+        Err(refused) => words::refuse(row, refused.refusal, refused.record),
     }
 }
 
@@ -29,15 +30,14 @@ pub fn las_cursor_start(file: &[u8], allowance: u64, numbers: &mut [u64; 10], ro
 pub fn las_cursor_next(file: &[u8], numbers: &mut [u64; 10], part: &mut [u64; 3]) -> bool
     ensures { (result, numbers.new, part.new) ≡ stepped_row file.now numbers.old part.old }
 {
-    let step = cursor::next(file, cursor_from(numbers));
-    if step.has {
-        let told = step.part;
-        let next = step.next;
-        *part = part_numbers(told);
-        *numbers = cursor_numbers(next);
-        return true;
-    }
-    false
+    let Some(step) = cursor::next(file, cursor_from(numbers)) else {
+        return false;
+    };
+    let told = step.part;
+    let next = step.next;
+    *part = part_numbers(told);
+    *numbers = cursor_numbers(next);
+    true
 }
 
 // A part's numbers.

@@ -1,11 +1,9 @@
 -- A descriptor's nine numbers and three texts, both ways, and the row of its read.
-use Rattle.std.specs.Prelude.{ℕ, ◌%◌, cond, List, [], ◌∷◌, ltb, get_or}
+use Rattle.refusal.specs.declared.Refusal.{Refusal}
+use Rattle.std.specs.Prelude.{ℕ, ◌%◌, cond, List, [], ◌∷◌, ltb, get_or, Result, Ok, Err}
 use Rattle.fields.specs.Table.{joined, part}
 use Rattle.words.specs.Rows.{refused_row}
 use Rattle.descriptor.specs.declared.Descriptor.{Descriptor}
-use Rattle.descriptor.specs.declared.Described.{Described}
-use Rattle.descriptor.specs.declared.Described.TheVariants.{Whole, Refused}
-use Rattle.descriptor.specs.declared.DescriptorRead.{DescriptorRead}
 use Rattle.descriptor.specs.Layout.{Field, Deprecated1, Deprecated2, Deprecated3, Deprecated4, Deprecated5}
 use Rattle.descriptor.specs.Descriptor.{field_bytes}
 
@@ -30,12 +28,9 @@ abbrev pub lent_of : Descriptor → Lent
 lent_of v = (numbers_of v, v.name, deprecated_of v, v.description)
 
 -- a read's row, whose value is the bytes of a descriptor, and what was lent, which a refusal leaves
-abbrev pub read_by : Lent → Descriptor → Described → List ℕ × Lent
-read_by lent v Whole = (0 ∷ 192 ∷ 0 ∷ [], lent_of v)
-read_by lent v (Refused r) = (refused_row r 0, lent)
-
-unfoldable pub read_row : Lent → DescriptorRead → List ℕ × Lent
-read_row lent r = read_by lent r.descriptor r.answer
+abbrev pub read_row : Lent → Result Descriptor Refusal → List ℕ × Lent
+read_row lent (Ok v) = (0 ∷ 192 ∷ 0 ∷ [], lent_of v)
+read_row lent (Err r) = (refused_row r 0, lent)
 
 -- a type, held at 255, so that it is refused where it is wider than its field
 unfoldable pub type_from : ℕ → ℕ

@@ -12,8 +12,7 @@ ghost use Rattle.descriptor.specs.Sizes.{size_of};
 ghost use Rattle.descriptor.specs.Descriptor.{read_of, written_of};
 ghost use Rattle.capi_descriptor.specs.Rows.{numbers_of, deprecated_of, read_row, type_from, descriptor_from};
 
-use descriptor::{Described, Descriptor};
-use lent::Wrote;
+use descriptor::Descriptor;
 use words::{low8, low16, low32, nth};
 
 // The descriptor at the start of s; the row's value is 192, its bytes. Refused, it leaves all but the row.
@@ -28,11 +27,8 @@ pub extern "C" fn las_descriptor_read(
 )
     ensures { (row.new, (numbers.new, name.new, deprecated.new, description.new)) ≡ read_row (numbers.old, name.old, deprecated.old, description.old) (read_of s.now) }
 {
-    let read = Descriptor::read_from(s);
-    let answer = read.answer;
-    let descriptor = read.descriptor;
-    match answer {
-        Described::Whole => {
+    match Descriptor::read_from(s) {
+        Ok(descriptor) => {
             let named = descriptor.name;
             let described = descriptor.description;
             *numbers = numbers_of(descriptor);
@@ -41,7 +37,7 @@ pub extern "C" fn las_descriptor_read(
             *description = described;
             words::tell(row, 0, 192, 0)
         }
-        Described::Refused(refusal) => words::refuse(row, refusal, 0),
+        Err(refusal) => words::refuse(row, refusal, 0),
     }
 }
 
@@ -59,8 +55,8 @@ pub extern "C" fn las_descriptor_write(
 {
     let descriptor = descriptor_from(numbers, *name, deprecated, *description);
     match descriptor.write_to(dst) {
-        Wrote::Bytes(n) => words::tell(row, 0, n as u64, 0),
-        Wrote::Refused(refusal) => words::refuse(row, refusal, 0),
+        Ok(n) => words::tell(row, 0, n as u64, 0),
+        Err(refusal) => words::refuse(row, refusal, 0),
     }
 }
 
@@ -121,15 +117,15 @@ fn descriptor_from(
         name,
         unused: low32(n, 3),
         no_data: nth(n, 4),
-        deprecated1: store::bytes16(old, 0),
+        deprecated1: store::bytes_at(old, 0),
         min: nth(n, 5),
-        deprecated2: store::bytes16(old, 16),
+        deprecated2: store::bytes_at(old, 16),
         max: nth(n, 6),
-        deprecated3: store::bytes16(old, 32),
+        deprecated3: store::bytes_at(old, 32),
         scale: nth(n, 7),
-        deprecated4: store::bytes16(old, 48),
+        deprecated4: store::bytes_at(old, 48),
         offset: nth(n, 8),
-        deprecated5: store::bytes16(old, 64),
+        deprecated5: store::bytes_at(old, 64),
         description,
     }
 }

@@ -10,12 +10,10 @@ ghost use Rattle.rewrite.specs.Rewritten.{rewritten_of};
 ghost use Rattle.capi_file.specs.Rows.{checked_row, rewrote_row, format_row};
 ghost use Rattle.capi_file.specs.Parts.{numbers_of, parts_row};
 
-use cursor::{Cursor, Started};
-use header::{Header, HeaderAnswer};
+use cursor::Cursor;
+use header::Header;
 use outline::Outline;
 use refusal::Refusal;
-use rewrite::Rewrote;
-use rules::Checked;
 
 // Whether the file is accepted; the row is number, value, record number and the records found whole.
 #[unsafe(no_mangle)]
@@ -23,14 +21,10 @@ pub extern "C" fn las_file_check(file: &[u8], allowance: u64, row: &mut [u64; 4]
     ensures { row.new ≡ checked_row (checked_of allowance file.now) }
 {
     match file::check(file, allowance) {
-        Checked::Accepted { records } => *row = [0, 0, 0, records],
-        Checked::Refused {
-            refusal,
-            record,
-            records,
-        } => {
-            let told = refusal.row(record);
-            *row = [told.number as u64, told.value, told.record, records];
+        Ok(records) => *row = [0, 0, 0, records],
+        Err(found) => {
+            let told = found.refusal.row(found.record);
+            *row = [told.number as u64, told.value, told.record, found.records];
         }
     }
 }
@@ -42,7 +36,7 @@ pub extern "C" fn las_file_parts(file: &[u8], allowance: u64, table: &mut [u64],
     ensures { (row.new, table.new) ≡ parts_row allowance file.now table.old }
 {
     match cursor::start(file, allowance) {
-        Started::At(c) => {
+        Ok(c) => {
             let wanted = parts::count(file, c);
             if table.len() / 3 < wanted {
                 words::refuse(row, Refusal::NoRoom(wanted as u64), 0);
@@ -51,7 +45,7 @@ pub extern "C" fn las_file_parts(file: &[u8], allowance: u64, table: &mut [u64],
             fill(file, c, table);
             words::tell(row, 0, wanted as u64, 0)
         }
-        Started::Refused { refusal, record } => words::refuse(row, refusal, record),
+        Err(refused) => words::refuse(row, refused.refusal, refused.record),
     }
 }
 
@@ -61,8 +55,8 @@ pub extern "C" fn las_file_rewrite(file: &[u8], allowance: u64, dst: &mut [u8], 
     ensures { (row.new, dst.new) ≡ rewrote_row (rewritten_of allowance file.now dst.old) }
 {
     match rewrite::rewrite(file, allowance, dst) {
-        Rewrote::Bytes(n) => words::tell(row, 0, n as u64, 0),
-        Rewrote::Refused { refusal, record } => words::refuse(row, refusal, record),
+        Ok(n) => words::tell(row, 0, n as u64, 0),
+        Err(refused) => words::refuse(row, refused.refusal, refused.record),
     }
 }
 
@@ -71,15 +65,12 @@ pub extern "C" fn las_file_rewrite(file: &[u8], allowance: u64, dst: &mut [u8], 
 pub extern "C" fn las_header_point_format(s: &[u8], row: &mut [u64; 3])
     ensures { row.new ≡ format_row (read_of s.now) }
 {
-    let read = Header::read_from(s);
-    let answer = read.answer;
-    let header = read.header;
-    match answer {
-        HeaderAnswer::Whole { block: _, end: _ } => {
+    match Header::read_from(s) {
+        Ok(header) => {
             let format = file::point_format(Outline::of(header));
             words::tell(row, 0, words::format_word(format) as u64, 0)
         }
-        HeaderAnswer::Refused(refusal) => words::refuse(row, refusal, 0),
+        Err(refusal) => words::refuse(row, refusal, 0),
     }
 }
 
@@ -89,14 +80,14 @@ fn fill(file: &[u8], c: Cursor, table: &mut [u64])
     ensures { table.new ≡ numbers_of (left_of file.now c) ++ drop (3 * length (left_of file.now c)) table.old }
 {
     let mut at: usize = 0;
-    let mut step = cursor::next(file, c);
-    while step.has {
+    let mut c = c;
+    while let Some(step) = cursor::next(file, c) {
         let part = step.part;
         let kind = part.kind;
         table[at] = capi_cursor::kind_number(kind);
         table[at + 1] = part.start;
         table[at + 2] = part.length;
         at += 3;
-        step = cursor::next(file, step.next);
+        c = step.next;
     }
 }

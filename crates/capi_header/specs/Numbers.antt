@@ -1,23 +1,14 @@
 -- A header as 51 numbers and three texts, and the rows of its calls.
-use Rattle.std.specs.Prelude.{ℕ, zero, suc, Bool, true, false, List, [], ◌∷◌, ◌++◌, Float, get_or, length}
+use Rattle.refusal.specs.declared.Refusal.{Refusal}
+use Rattle.header.specs.declared.Whole.{Whole}
+use Rattle.std.specs.Prelude.{ℕ, zero, suc, Bool, true, false, List, [], ◌∷◌, ◌++◌, Float, get_or, length, Option, Some, None, Result, Ok, Err}
 use Rattle.le.specs.Real.{f64_bits_of}
 use Rattle.words.specs.Rows.{refused_row, part_row}
-use Rattle.header.specs.declared.OptionU64.{OptionU64}
-use Rattle.header.specs.declared.OptionU64.TheVariants as start
 use Rattle.header.specs.declared.Evlr.{Evlr}
-use Rattle.header.specs.declared.OptionEvlr.{OptionEvlr}
-use Rattle.header.specs.declared.OptionEvlr.TheVariants as pair
 use Rattle.header.specs.declared.LargeFile.{LargeFile}
 use Rattle.header.specs.declared.Header.{Header}
-use Rattle.header.specs.declared.HeaderAnswer.{HeaderAnswer}
-use Rattle.header.specs.declared.HeaderAnswer.TheVariants as answer
-use Rattle.header.specs.declared.HeaderRead.{HeaderRead}
-use Rattle.header.specs.declared.StandardSize.{StandardSize}
-use Rattle.header.specs.declared.StandardSize.TheVariants as standard
-use Rattle.header.specs.declared.EndOfPoints.{EndOfPoints}
-use Rattle.header.specs.declared.EndOfPoints.TheVariants as end
 use Rattle.header.specs.Header.{large_back, points_of, end_of_points}
-use Rattle.header.specs.Judged.{read_of, padding_of}
+use Rattle.header.specs.Judged.{padding_of, judged}
 use Rattle.header_write.specs.Bytes.{start_back, evlr_back}
 
 -- the number at place k, and the n numbers from there on
@@ -29,13 +20,13 @@ from xs k zero = []
 from xs k (suc n) = nth xs k ∷ from xs (suc k) n
 
 -- whether a part is there; what stands for it where it isn't is what the writer writes, zeros
-abbrev pub has_start : OptionU64 → ℕ
-has_start (start.Some n) = 1
-has_start start.None = 0
+abbrev pub has_start : Option ℕ → ℕ
+has_start (Some n) = 1
+has_start None = 0
 
-abbrev pub has_evlr : OptionEvlr → ℕ
-has_evlr (pair.Some e) = 1
-has_evlr pair.None = 0
+abbrev pub has_evlr : Option Evlr → ℕ
+has_evlr (Some e) = 1
+has_evlr None = 0
 
 abbrev pub has_large : Bool → ℕ
 has_large true = 1
@@ -80,36 +71,36 @@ abbrev pub lent_of : Header → Lent
 lent_of h = (numbers_of h, h.guid, h.system_identifier, h.generating_software)
 
 -- a read's row, whose value is where the padding ends, and what was lent, which a refusal leaves
-abbrev pub read_by : Lent → Header → HeaderAnswer → List ℕ × Lent
-read_by lent h (answer.Whole n e) = (0 ∷ e ∷ 0 ∷ [], lent_of h)
-read_by lent h (answer.Refused r) = (refused_row r 0, lent)
+abbrev pub read_row : Lent → ℕ → Result Header Refusal → List ℕ × Lent
+read_row lent end (Ok h) = (0 ∷ end ∷ 0 ∷ [], lent_of h)
+read_row lent end (Err r) = (refused_row r 0, lent)
 
-unfoldable pub read_row : Lent → HeaderRead → List ℕ × Lent
-read_row lent r = read_by lent r.header r.answer
+-- where the padding ends, of a header that is not refused
+abbrev pub end_of : Result Whole Refusal → ℕ
+end_of (Ok whole) = whole.end
+end_of (Err r) = 0
 
 -- the place and the count of the padding; two zeros where there is none, as on refusal
-abbrev pub block_of : HeaderAnswer → ℕ
-block_of (answer.Whole n e) = n
-block_of (answer.Refused r) = 0
+abbrev pub block_of : Result Whole Refusal → ℕ
+block_of (Ok whole) = whole.block
+block_of (Err r) = 0
 
 unfoldable pub padding_part : List ℕ → List ℕ
-padding_part s = part_row (block_of (read_of s).answer) (length (padding_of s))
+padding_part s = part_row (block_of (judged s)) (length (padding_of s))
 
 -- the row of what is told of a header, which a refusal stands in for
-abbrev pub told_by : List ℕ → HeaderAnswer → List ℕ
-told_by row (answer.Whole n e) = row
-told_by row (answer.Refused r) = refused_row r 0
+abbrev pub points_row : Result Header Refusal → List ℕ
+points_row (Ok h) = 0 ∷ points_of h ∷ 0 ∷ []
+points_row (Err r) = refused_row r 0
 
-unfoldable pub points_row : HeaderRead → List ℕ
-points_row r = told_by (0 ∷ points_of r.header ∷ 0 ∷ []) r.answer
+abbrev pub end_by : Result ℕ Refusal → List ℕ
+end_by (Ok n) = 0 ∷ n ∷ 0 ∷ []
+end_by (Err r) = refused_row r 0
 
-abbrev pub end_by : EndOfPoints → List ℕ
-end_by (end.Is n) = 0 ∷ n ∷ 0 ∷ []
-end_by (end.Refused r) = refused_row r 0
+abbrev pub end_row : Result Header Refusal → List ℕ
+end_row (Ok h) = end_by (end_of_points h)
+end_row (Err r) = refused_row r 0
 
-unfoldable pub end_row : HeaderRead → List ℕ
-end_row r = told_by (end_by (end_of_points r.header)) r.answer
-
-abbrev pub size_row : StandardSize → List ℕ
-size_row (standard.Is n) = 0 ∷ n ∷ 0 ∷ []
-size_row (standard.Refused r) = refused_row r 0
+abbrev pub size_row : Result ℕ Refusal → List ℕ
+size_row (Ok n) = 0 ∷ n ∷ 0 ∷ []
+size_row (Err r) = refused_row r 0

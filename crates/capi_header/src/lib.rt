@@ -13,11 +13,12 @@
 
 ghost use Rattle.std.specs.Prelude.{◌≡◌};
 ghost use Rattle.header.specs.Header.{default_header, end_of_points};
-ghost use Rattle.header.specs.Judged.{standard_of, read_of};
-ghost use Rattle.capi_header.specs.Numbers.{has_start, has_evlr, has_large, bits, numbers_of, lent_of, read_row, block_of, padding_part, points_row, end_by, end_row, size_row};
+ghost use Rattle.header.specs.Judged.{standard_of, judged, read_of};
+ghost use Rattle.capi_header.specs.Numbers.{has_start, has_evlr, has_large, bits, numbers_of, lent_of, read_row, block_of, end_of, padding_part, points_row, end_by, end_row, size_row};
 
-use header::{EndOfPoints, Header, HeaderAnswer, OptionEvlr, OptionU64, StandardSize, Version};
-use le::float;
+use header::{Evlr, Header, Version, Whole};
+use le::float::F64;
+use refusal::Refusal;
 
 // The header at the front of s; the row's value is where it ends with its padding. Refused, it leaves all but the row.
 pub fn las_header_read(
@@ -28,13 +29,10 @@ pub fn las_header_read(
     system: &mut [u8; 32],
     software: &mut [u8; 32],
 )
-    ensures { (row.new, (numbers.new, guid.new, system.new, software.new)) ≡ read_row (numbers.old, guid.old, system.old, software.old) (read_of s.now) }
+    ensures { (row.new, (numbers.new, guid.new, system.new, software.new)) ≡ read_row (numbers.old, guid.old, system.old, software.old) (end_of (judged s.now)) (read_of s.now) }
 {
-    let read = Header::read_from(s);
-    let answer = read.answer;
-    let header = read.header;
-    match answer {
-        HeaderAnswer::Whole { block: _, end } => {
+    match Header::read_from(s) {
+        Ok(header) => {
             let id = header.guid;
             let identifier = header.system_identifier;
             let generating = header.generating_software;
@@ -42,9 +40,9 @@ pub fn las_header_read(
             *guid = id;
             *system = identifier;
             *software = generating;
-            words::tell(row, 0, end as u64, 0)
+            words::tell(row, 0, end_of(header::measure(s)) as u64, 0)
         }
-        HeaderAnswer::Refused(refusal) => words::refuse(row, refusal, 0),
+        Err(refusal) => words::refuse(row, refusal, 0),
     }
 }
 
@@ -52,24 +50,21 @@ pub fn las_header_read(
 pub fn las_header_padding(s: &[u8], part: &mut [u64; 2])
     ensures { part.new ≡ padding_part s.now }
 {
-    let read = Header::read_from(s);
-    let answer = read.answer;
     let padding = header::padding(s);
-    words::tell_part(part, block_of(answer) as u64, padding.len() as u64)
+    words::tell_part(
+        part,
+        block_of(header::measure(s)) as u64,
+        padding.len() as u64,
+    )
 }
 
 // How many points the header at the front of s counts.
 pub fn las_header_points(s: &[u8], row: &mut [u64; 3])
     ensures { row.new ≡ points_row (read_of s.now) }
 {
-    let read = Header::read_from(s);
-    let answer = read.answer;
-    let header = read.header;
-    match answer {
-        HeaderAnswer::Whole { block: _, end: _ } => {
-            words::tell(row, 0, header.number_of_point_records(), 0)
-        }
-        HeaderAnswer::Refused(refusal) => words::refuse(row, refusal, 0),
+    match Header::read_from(s) {
+        Ok(header) => words::tell(row, 0, header.number_of_point_records(), 0),
+        Err(refusal) => words::refuse(row, refusal, 0),
     }
 }
 
@@ -77,12 +72,9 @@ pub fn las_header_points(s: &[u8], row: &mut [u64; 3])
 pub fn las_header_end_of_points(s: &[u8], row: &mut [u64; 3])
     ensures { row.new ≡ end_row (read_of s.now) }
 {
-    let read = Header::read_from(s);
-    let answer = read.answer;
-    let header = read.header;
-    match answer {
-        HeaderAnswer::Whole { block: _, end: _ } => tell_end(row, header),
-        HeaderAnswer::Refused(refusal) => words::refuse(row, refusal, 0),
+    match Header::read_from(s) {
+        Ok(header) => tell_end(row, header),
+        Err(refusal) => words::refuse(row, refusal, 0),
     }
 }
 
@@ -92,8 +84,8 @@ pub fn las_header_size(major: u8, minor: u8, row: &mut [u64; 3])
 {
     let version = Version { major, minor };
     match version.header_size() {
-        StandardSize::Is(n) => words::tell(row, 0, n as u64, 0),
-        StandardSize::Refused(refusal) => words::refuse(row, refusal, 0),
+        Ok(n) => words::tell(row, 0, n as u64, 0),
+        Err(refusal) => words::refuse(row, refusal, 0),
     }
 }
 
@@ -121,18 +113,28 @@ fn tell_end(row: &mut [u64; 3], header: Header)
     ensures { row.new ≡ end_by (end_of_points header) }
 {
     match header.offset_to_end_of_points() {
-        EndOfPoints::Is(n) => words::tell(row, 0, n, 0),
-        EndOfPoints::Refused(refusal) => words::refuse(row, refusal, 0),
+        Ok(n) => words::tell(row, 0, n, 0),
+        Err(refusal) => words::refuse(row, refusal, 0),
     }
 }
 
 // Where the header's block ends, and its padding starts.
-fn block_of(answer: HeaderAnswer) -> usize
+fn block_of(answer: Result<Whole, Refusal>) -> usize
     ensures { result ≡ block_of answer }
 {
     match answer {
-        HeaderAnswer::Whole { block, end: _ } => block,
-        HeaderAnswer::Refused(_) => 0,
+        Ok(whole) => whole.block,
+        Err(_) => 0,
+    }
+}
+
+// Where its padding ends.
+fn end_of(answer: Result<Whole, Refusal>) -> usize
+    ensures { result ≡ end_of answer }
+{
+    match answer {
+        Ok(whole) => whole.end,
+        Err(_) => 0,
     }
 }
 
@@ -207,7 +209,7 @@ fn numbers_of(h: Header) -> [u64; 51]
 fn float_bits(value: f64, nan: u64) -> u64
     ensures { result ≡ bits value nan }
 {
-    float::f64_bits(float::F64 { value, nan })
+    F64 { value, nan }.to_bits()
 }
 
 // A number of fewer bits as one of 64. The header's are too many for a proof of each cast where it stands.
@@ -232,21 +234,21 @@ fn wide32(n: u32) -> u64
 
 // Whether what may be missing is there. Where it isn't zeros stand for it, as the header's writer has them.
 
-fn has_start(start: OptionU64) -> u64
+fn has_start(start: Option<u64>) -> u64
     ensures { result ≡ has_start start }
 {
     match start {
-        OptionU64::Some(_) => 1,
-        OptionU64::None => 0,
+        Some(_) => 1,
+        None => 0,
     }
 }
 
-fn has_evlr(evlr: OptionEvlr) -> u64
+fn has_evlr(evlr: Option<Evlr>) -> u64
     ensures { result ≡ has_evlr evlr }
 {
     match evlr {
-        OptionEvlr::Some(_) => 1,
-        OptionEvlr::None => 0,
+        Some(_) => 1,
+        None => 0,
     }
 }
 

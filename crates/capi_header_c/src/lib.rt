@@ -3,8 +3,8 @@
 
 ghost use Rattle.std.specs.Prelude.{◌≡◌};
 ghost use Rattle.header.specs.Header.{default_header};
-ghost use Rattle.header.specs.Judged.{standard_of, read_of};
-ghost use Rattle.capi_header.specs.Numbers.{lent_of, read_row, padding_part, points_row, end_row, size_row};
+ghost use Rattle.header.specs.Judged.{standard_of, judged, read_of};
+ghost use Rattle.capi_header.specs.Numbers.{lent_of, read_row, end_of, padding_part, points_row, end_row, size_row};
 
 // The header at the front of s; the row's value is where it ends with its padding. Refused, it leaves all but the row.
 #[unsafe(no_mangle)]
@@ -16,7 +16,7 @@ pub extern "C" fn las_header_read(
     system: &mut [u8; 32],
     software: &mut [u8; 32],
 )
-    ensures { (row.new, (numbers.new, guid.new, system.new, software.new)) ≡ read_row (numbers.old, guid.old, system.old, software.old) (read_of s.now) }
+    ensures { (row.new, (numbers.new, guid.new, system.new, software.new)) ≡ read_row (numbers.old, guid.old, system.old, software.old) (end_of (judged s.now)) (read_of s.now) }
 {
     capi_header::las_header_read(s, row, numbers, guid, system, software)
 }

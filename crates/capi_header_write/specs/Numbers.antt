@@ -1,11 +1,8 @@
 -- A header from 51 numbers and three texts, and the row of its write.
-use Rattle.std.specs.Prelude.{ℕ, zero, suc, ◌%◌, cond, not, List, [], ◌∷◌, eqb, get_or}
+use Rattle.header.specs.declared.Evlr.{Evlr}
+use Rattle.std.specs.Prelude.{ℕ, zero, suc, ◌%◌, cond, not, List, [], ◌∷◌, eqb, get_or, Option, Some, None}
 use Rattle.le.specs.Real.{f64_of}
 use Rattle.le.specs.declared.float.F64.{F64}
-use Rattle.header.specs.declared.OptionU64.{OptionU64}
-use Rattle.header.specs.declared.OptionU64.TheVariants as start
-use Rattle.header.specs.declared.OptionEvlr.{OptionEvlr}
-use Rattle.header.specs.declared.OptionEvlr.TheVariants as pair
 use Rattle.header.specs.declared.LargeFile.{LargeFile}
 use Rattle.header.specs.declared.Nans.{Nans}
 use Rattle.header.specs.declared.Header.{Header}
@@ -36,12 +33,12 @@ low_from n k zero = []
 low_from n k (suc count) = low32 n k ∷ low_from n (suc k) count
 
 -- what may be missing: any number but 0 says that it is there
-unfoldable pub start_from : ℕ → ℕ → OptionU64
-start_from has n = cond (eqb has 0) start.None (start.Some n)
+unfoldable pub start_from : ℕ → ℕ → Option ℕ
+start_from has n = cond (eqb has 0) None (Some n)
 
-unfoldable pub evlr_from : ℕ → ℕ → ℕ → OptionEvlr
+unfoldable pub evlr_from : ℕ → ℕ → ℕ → Option Evlr
 evlr_from has first count =
-    cond (eqb has 0) pair.None (pair.Some (record { start_of_first_evlr = first; number_of_evlrs = count % 4294967296 }))
+    cond (eqb has 0) None (Some (record { start_of_first_evlr = first; number_of_evlrs = count % 4294967296 }))
 
 unfoldable pub large_from : List ℕ → LargeFile
 large_from n = record { number_of_point_records = nth n 35; number_of_points_by_return = from n 36 15 }

@@ -9,9 +9,8 @@ ghost use Rattle.header_write.specs.Wrote.{wrote_of};
 ghost use Rattle.words.specs.Rows.{written_row};
 ghost use Rattle.capi_header_write.specs.Numbers.{low_from, start_from, evlr_from, large_from, nans_from, header_from};
 
-use header::{Evlr, Header, LargeFile, Nans, OptionEvlr, OptionU64, Version};
-use le::float;
-use lent::Wrote;
+use header::{Evlr, Header, LargeFile, Nans, Version};
+use le::float::F64;
 use words::{low8, low16, low32, nth};
 
 // Writes the header of 51 numbers and three texts, and then its padding, to the front of dst; the row's value is the count
@@ -29,8 +28,8 @@ pub fn las_header_write(
 {
     let header = header_from(numbers, *guid, *system, *software);
     match header_write::write_to(header, padding, dst) {
-        Wrote::Bytes(n) => words::tell(row, 0, n as u64, 0),
-        Wrote::Refused(refusal) => words::refuse(row, refusal, 0),
+        Ok(n) => words::tell(row, 0, n as u64, 0),
+        Err(refusal) => words::refuse(row, refusal, 0),
     }
 }
 
@@ -114,22 +113,22 @@ fn nans_from(n: &[u64]) -> Nans
 
 // What may be missing: any number but 0 says that it is there.
 
-fn start_from(n: &[u64]) -> OptionU64
+fn start_from(n: &[u64]) -> Option<u64>
     ensures { result ≡ start_from (get_or n.now 29 0) (get_or n.now 30 0) }
 {
     if nth(n, 29) == 0 {
-        return OptionU64::None;
+        return None;
     }
-    OptionU64::Some(nth(n, 30))
+    Some(nth(n, 30))
 }
 
-fn evlr_from(n: &[u64]) -> OptionEvlr
+fn evlr_from(n: &[u64]) -> Option<Evlr>
     ensures { result ≡ evlr_from (get_or n.now 31 0) (get_or n.now 32 0) (get_or n.now 33 0) }
 {
     if nth(n, 31) == 0 {
-        return OptionEvlr::None;
+        return None;
     }
-    OptionEvlr::Some(Evlr {
+    Some(Evlr {
         start_of_first_evlr: nth(n, 32),
         number_of_evlrs: low32(n, 33),
     })
@@ -165,11 +164,11 @@ fn large_from(n: &[u64]) -> LargeFile
 fn value(n: &[u64], k: usize) -> f64
     ensures { result ≡ (f64_of (get_or n.now k 0)).value }
 {
-    float::f64_of(nth(n, k)).value
+    F64::from_bits(nth(n, k)).value
 }
 
 fn nan(n: &[u64], k: usize) -> u64
     ensures { result ≡ (f64_of (get_or n.now k 0)).nan }
 {
-    float::f64_of(nth(n, k)).nan
+    F64::from_bits(nth(n, k)).nan
 }

@@ -10,8 +10,7 @@ ghost use Rattle.keys.specs.Keys.{opened_of, key_at_of, found_of, got_of};
 ghost use Rattle.directory_write.specs.Written.{written_of};
 ghost use Rattle.capi_keys.specs.Rows.{keys_numbers, keys_from, key_numbers, opened_row, key_row, got_row};
 
-use keys::{Got, KeyAt, Keys, Opened, Value};
-use lent::Wrote;
+use keys::{KeyValue, Keys, Value};
 
 // Where the keys of a file stand; the row's value is how many there are. Where it is refused the numbers stay as they were.
 #[unsafe(no_mangle)]
@@ -19,11 +18,11 @@ pub extern "C" fn las_keys(file: &[u8], allowance: u64, numbers: &mut [u64; 5], 
     ensures { (row.new, numbers.new) ≡ opened_row numbers.old (opened_of allowance file.now) }
 {
     match keys::open(file, allowance) {
-        Opened::Keys(keys) => {
+        Ok(keys) => {
             *numbers = keys_numbers(keys);
             words::tell(row, 0, keys.count as u64, 0)
         }
-        Opened::Refused { refusal, record } => words::refuse(row, refusal, record),
+        Err(refused) => words::refuse(row, refused.refusal, refused.record),
     }
 }
 
@@ -60,11 +59,11 @@ pub extern "C" fn las_key(
     ensures { (row.new, key.new) ≡ got_row wanted key.old (got_of allowance wanted file.now) }
 {
     match keys::get(file, allowance, wanted) {
-        Got::Value(value) => {
+        Ok(value) => {
             *key = key_numbers(wanted, value);
             words::tell(row, 0, 0, 0)
         }
-        Got::Refused { refusal, record } => words::refuse(row, refusal, record),
+        Err(refused) => words::refuse(row, refused.refusal, refused.record),
     }
 }
 
@@ -74,21 +73,21 @@ pub extern "C" fn las_keys_write(keys: &[u16], dst: &mut [u8], row: &mut [u64; 3
     ensures { (row.new, dst.new) ≡ written_row (written_of keys.now dst.old) }
 {
     match directory_write::write(keys, dst) {
-        Wrote::Bytes(n) => words::tell(row, 0, n as u64, 0),
-        Wrote::Refused(refusal) => words::refuse(row, refusal, 0),
+        Ok(n) => words::tell(row, 0, n as u64, 0),
+        Err(refusal) => words::refuse(row, refusal, 0),
     }
 }
 
 // Whether there is a key, and its numbers where there is.
-fn tell_key(at: KeyAt, numbers: &mut [u64; 5]) -> bool
-    ensures { (result, numbers.new) ≡ key_row numbers.old at }
+fn tell_key(found: Option<KeyValue>, numbers: &mut [u64; 5]) -> bool
+    ensures { (result, numbers.new) ≡ key_row numbers.old found }
 {
-    match at {
-        KeyAt::Is { key, value } => {
-            *numbers = key_numbers(key, value);
+    match found {
+        Some(found) => {
+            *numbers = key_numbers(found.key, found.value);
             true
         }
-        KeyAt::Nothing => false,
+        None => false,
     }
 }
 

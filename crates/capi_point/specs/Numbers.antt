@@ -1,5 +1,7 @@
 -- A point as 24 numbers, both ways, and the rows of its calls.
-use Rattle.std.specs.Prelude.{ℕ, ◌%◌, cond, List, [], ◌∷◌, eqb, Float, get_or, length}
+use Rattle.le.specs.declared.float.F64.{F64}
+use Rattle.refusal.specs.declared.Refusal.{Refusal}
+use Rattle.std.specs.Prelude.{ℕ, ◌%◌, cond, List, [], ◌∷◌, eqb, Float, get_or, length, Option, Some, None, Result, Ok, Err}
 use Rattle.std.specs.Int.{w32}
 use Rattle.std.proofs.Common.{to_z, of_z}
 use Rattle.le.specs.Real.{f32_of, f64_of, f32_bits_of, f64_bits_of}
@@ -11,43 +13,33 @@ use Rattle.format.specs.Fields.{place_of}
 use Rattle.point.specs.Read.{extra_of}
 use Rattle.point.specs.declared.Color.{Color}
 use Rattle.point.specs.declared.Waveform.{Waveform}
-use Rattle.point.specs.declared.MaybeTime.{MaybeTime}
-use Rattle.point.specs.declared.MaybeTime.TheVariants as time
-use Rattle.point.specs.declared.MaybeColor.{MaybeColor}
-use Rattle.point.specs.declared.MaybeColor.TheVariants as color
-use Rattle.point.specs.declared.MaybeNir.{MaybeNir}
-use Rattle.point.specs.declared.MaybeNir.TheVariants as nir
-use Rattle.point.specs.declared.MaybeWaveform.{MaybeWaveform}
-use Rattle.point.specs.declared.MaybeWaveform.TheVariants as waveform
 use Rattle.point.specs.declared.Point.{Point}
-use Rattle.point.specs.declared.PointRead.{PointRead}
-use Rattle.point.specs.declared.PointRead.TheVariants as read
 use Rattle.capi_point.specs.declared.Bits.{Bits}
 
 -- whether a part is there, and what stands for it where it isn't
-abbrev pub has_time : MaybeTime → ℕ
-has_time (time.Some t) = 1
-has_time time.None = 0
+abbrev pub has_time : Option F64 → ℕ
+has_time (Some t) = 1
+has_time None = 0
 
-abbrev pub time_bits_of : MaybeTime → ℕ
-time_bits_of (time.Some t) = f64_bits_of t
-time_bits_of time.None = 0
+abbrev pub time_bits_of : Option F64 → ℕ
+time_bits_of (Some t) = f64_bits_of t
+time_bits_of None = 0
 
-abbrev pub has_color : MaybeColor → ℕ
-has_color (color.Some c) = 1
-has_color color.None = 0
+abbrev pub has_color : Option Color → ℕ
+has_color (Some c) = 1
+has_color None = 0
 
-abbrev pub color_or : MaybeColor → Color
-color_or (color.Some c) = c
-color_or color.None = record { red = 0; green = 0; blue = 0 }
+abbrev pub color_or : Option Color → Color
+color_or (Some c) = c
+color_or None = record { red = 0; green = 0; blue = 0 }
 
-abbrev pub has_nir : MaybeNir → ℕ
-has_nir (nir.Some n) = 1
-has_nir nir.None = 0
+abbrev pub has_nir : Option ℕ → ℕ
+has_nir (Some n) = 1
+has_nir None = 0
 
-abbrev pub nir_or : MaybeNir → ℕ
-nir_or (nir.Some n) = n
-nir_or nir.None = 0
+abbrev pub nir_or : Option ℕ → ℕ
+nir_or (Some n) = n
+nir_or None = 0
 
 -- a waveform of an index, an offset, a size and the bits of four floats
 unfoldable pub waveform_from : ℕ → ℕ → ℕ → Bits → Waveform
@@ -68,13 +60,13 @@ waveform_from index offset size b =
       };
     }
 
-abbrev pub has_waveform : MaybeWaveform → ℕ
-has_waveform (waveform.Some w) = 1
-has_waveform waveform.None = 0
+abbrev pub has_waveform : Option Waveform → ℕ
+has_waveform (Some w) = 1
+has_waveform None = 0
 
-abbrev pub waveform_or : MaybeWaveform → Waveform
-waveform_or (waveform.Some w) = w
-waveform_or waveform.None = waveform_from 0 0 0 (record { location = 0; x_t = 0; y_t = 0; z_t = 0 })
+abbrev pub waveform_or : Option Waveform → Waveform
+waveform_or (Some w) = w
+waveform_or None = waveform_from 0 0 0 (record { location = 0; x_t = 0; y_t = 0; z_t = 0 })
 
 -- the bits of a float with its NaN's pattern beside it
 abbrev pub bits_of : Float → ℕ → ℕ
@@ -98,33 +90,33 @@ numbers_of p =
     (has_waveform p.waveform) (waveform_or p.waveform)
 
 -- a read's row, and the numbers, which a refusal leaves
-abbrev pub read_row : List ℕ → PointRead → List ℕ × List ℕ
-read_row n (read.Is p) = (0 ∷ 0 ∷ 0 ∷ [], numbers_of p)
-read_row n (read.Refused r) = (refused_row r 0, n)
+abbrev pub read_row : List ℕ → Result Point Refusal → List ℕ × List ℕ
+read_row n (Ok p) = (0 ∷ 0 ∷ 0 ∷ [], numbers_of p)
+read_row n (Err r) = (refused_row r 0, n)
 
 -- the place and the count of the extra bytes; two zeros where there are none, as on refusal
 unfoldable pub extra_part : Format → List ℕ → List ℕ
 extra_part f s = part_row (place_of f ExtraBytes) (length (extra_of f s))
 
 -- a point from 24 numbers; any number but 0 says that a part is there, and of a number too wide the low bits count
-unfoldable pub time_from : ℕ → ℕ → MaybeTime
-time_from has bits = cond (eqb has 0) time.None (time.Some (f64_of bits))
+unfoldable pub time_from : ℕ → ℕ → Option F64
+time_from has bits = cond (eqb has 0) None (Some (f64_of bits))
 
-unfoldable pub color_from : ℕ → ℕ → ℕ → ℕ → MaybeColor
+unfoldable pub color_from : ℕ → ℕ → ℕ → ℕ → Option Color
 color_from has r g b =
-    cond (eqb has 0) color.None (color.Some (record { red = r % 65536; green = g % 65536; blue = b % 65536 }))
+    cond (eqb has 0) None (Some (record { red = r % 65536; green = g % 65536; blue = b % 65536 }))
 
-unfoldable pub nir_from : ℕ → ℕ → MaybeNir
-nir_from has n = cond (eqb has 0) nir.None (nir.Some (n % 65536))
+unfoldable pub nir_from : ℕ → ℕ → Option ℕ
+nir_from has n = cond (eqb has 0) None (Some (n % 65536))
 
 -- the number at place k
 abbrev pub nth : List ℕ → ℕ → ℕ
 nth n k = get_or n k 0
 
-unfoldable pub maybe_waveform_from : List ℕ → MaybeWaveform
+unfoldable pub maybe_waveform_from : List ℕ → Option Waveform
 maybe_waveform_from n =
-    cond (eqb (nth n 16) 0) waveform.None
-    (waveform.Some
+    cond (eqb (nth n 16) 0) None
+    (Some
     (waveform_from (nth n 17 % 256) (nth n 18) (nth n 19 % 4294967296)
     (record {
       location = nth n 20 % 4294967296;

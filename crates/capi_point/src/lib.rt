@@ -16,11 +16,8 @@ ghost use Rattle.point_write.specs.Write.{written_of};
 ghost use Rattle.words.specs.Rows.{written_row};
 ghost use Rattle.capi_point.specs.Numbers.{has_time, time_bits_of, has_color, color_or, has_nir, nir_or, has_waveform, waveform_or, bits_of, numbers_of, read_row, extra_part, time_from, color_from, nir_from, waveform_from, maybe_waveform_from, point_from};
 
-use le::{float, signed};
-use lent::Wrote;
-use point::{
-    Color, MaybeColor, MaybeNir, MaybeTime, MaybeWaveform, Point, PointRead, Waveform, WaveformNans,
-};
+use le::float::{F32, F64};
+use point::{Color, Point, Waveform, WaveformNans};
 use words::{low8, low16, low32, nth};
 
 // The point in the first bytes of s, as 24 numbers; where it is refused they stay as they were.
@@ -28,11 +25,11 @@ pub fn las_point_read(s: &[u8], format: u32, row: &mut [u64; 3], numbers: &mut [
     ensures { (row.new, numbers.new) ≡ read_row numbers.old (read_of (format_of_word format) s.now) }
 {
     match Point::read_from(s, words::format_of(format)) {
-        PointRead::Is(point) => {
+        Ok(point) => {
             *numbers = numbers_of(point);
             words::tell(row, 0, 0, 0)
         }
-        PointRead::Refused(refusal) => words::refuse(row, refusal, 0),
+        Err(refusal) => words::refuse(row, refusal, 0),
     }
 }
 
@@ -58,8 +55,8 @@ pub fn las_point_write(
 {
     let point = point_from(numbers);
     match point_write::write_to(point, extra, dst, words::format_of(format)) {
-        Wrote::Bytes(n) => words::tell(row, 0, n as u64, 0),
-        Wrote::Refused(refusal) => words::refuse(row, refusal, 0),
+        Ok(n) => words::tell(row, 0, n as u64, 0),
+        Err(refusal) => words::refuse(row, refusal, 0),
     }
 }
 
@@ -77,9 +74,9 @@ pub fn numbers_of(point: Point) -> [u64; 24]
     let waveform = waveform_or(maybe_waveform);
     let nans = waveform.nans;
     [
-        signed::bits32(point.x) as u64,
-        signed::bits32(point.y) as u64,
-        signed::bits32(point.z) as u64,
+        point.x.cast_unsigned() as u64,
+        point.y.cast_unsigned() as u64,
+        point.z.cast_unsigned() as u64,
         point.intensity as u64,
         words::flags_word(flags) as u64,
         words::angle_word(scan_angle) as u64,
@@ -114,9 +111,9 @@ pub fn point_from(n: &[u64; 24]) -> Point
     // a slice from here on, as `words` reads numbers
     let n: &[u64] = n;
     Point {
-        x: signed::signed32(low32(n, 0)),
-        y: signed::signed32(low32(n, 1)),
-        z: signed::signed32(low32(n, 2)),
+        x: low32(n, 0).cast_signed(),
+        y: low32(n, 1).cast_signed(),
+        z: low32(n, 2).cast_signed(),
         intensity: low16(n, 3),
         flags: words::flags_of(low32(n, 4)),
         scan_angle: words::angle_of(low32(n, 5)),
@@ -131,39 +128,39 @@ pub fn point_from(n: &[u64; 24]) -> Point
 
 // What may be missing, going out: whether it is there, and what stands for it where it isn't, as the Rust's defaults.
 
-fn has_time(time: MaybeTime) -> u64
+fn has_time(time: Option<F64>) -> u64
     ensures { result ≡ has_time time }
 {
     match time {
-        MaybeTime::Some(_) => 1,
-        MaybeTime::None => 0,
+        Some(_) => 1,
+        None => 0,
     }
 }
 
-fn time_bits(time: MaybeTime) -> u64
+fn time_bits(time: Option<F64>) -> u64
     ensures { result ≡ time_bits_of time }
 {
     match time {
-        MaybeTime::Some(t) => float::f64_bits(t),
-        MaybeTime::None => 0,
+        Some(t) => t.to_bits(),
+        None => 0,
     }
 }
 
-fn has_color(color: MaybeColor) -> u64
+fn has_color(color: Option<Color>) -> u64
     ensures { result ≡ has_color color }
 {
     match color {
-        MaybeColor::Some(_) => 1,
-        MaybeColor::None => 0,
+        Some(_) => 1,
+        None => 0,
     }
 }
 
-fn color_or(color: MaybeColor) -> Color
+fn color_or(color: Option<Color>) -> Color
     ensures { result ≡ color_or color }
 {
     match color {
-        MaybeColor::Some(c) => c,
-        MaybeColor::None => Color {
+        Some(c) => c,
+        None => Color {
             red: 0,
             green: 0,
             blue: 0,
@@ -171,39 +168,39 @@ fn color_or(color: MaybeColor) -> Color
     }
 }
 
-fn has_nir(nir: MaybeNir) -> u64
+fn has_nir(nir: Option<u16>) -> u64
     ensures { result ≡ has_nir nir }
 {
     match nir {
-        MaybeNir::Some(_) => 1,
-        MaybeNir::None => 0,
+        Some(_) => 1,
+        None => 0,
     }
 }
 
-fn nir_or(nir: MaybeNir) -> u64
+fn nir_or(nir: Option<u16>) -> u64
     ensures { result ≡ nir_or nir }
 {
     match nir {
-        MaybeNir::Some(n) => n as u64,
-        MaybeNir::None => 0,
+        Some(n) => n as u64,
+        None => 0,
     }
 }
 
-fn has_waveform(waveform: MaybeWaveform) -> u64
+fn has_waveform(waveform: Option<Waveform>) -> u64
     ensures { result ≡ has_waveform waveform }
 {
     match waveform {
-        MaybeWaveform::Some(_) => 1,
-        MaybeWaveform::None => 0,
+        Some(_) => 1,
+        None => 0,
     }
 }
 
-fn waveform_or(waveform: MaybeWaveform) -> Waveform
+fn waveform_or(waveform: Option<Waveform>) -> Waveform
     ensures { result ≡ waveform_or waveform }
 {
     match waveform {
-        MaybeWaveform::Some(w) => w,
-        MaybeWaveform::None => waveform_from(
+        Some(w) => w,
+        None => waveform_from(
             0,
             0,
             0,
@@ -221,40 +218,40 @@ fn waveform_or(waveform: MaybeWaveform) -> Waveform
 fn float_bits(value: f32, nan: u32) -> u64
     ensures { result ≡ bits_of value nan }
 {
-    float::f32_bits(float::F32 { value, nan }) as u64
+    F32 { value, nan }.to_bits() as u64
 }
 
 // What may be missing, coming in: any number but 0 says that it is there.
 
-fn time_from(n: &[u64]) -> MaybeTime
+fn time_from(n: &[u64]) -> Option<F64>
     ensures { result ≡ time_from (get_or n.now 8 0) (get_or n.now 9 0) }
 {
     if nth(n, 8) == 0 {
-        return MaybeTime::None;
+        return None;
     }
-    MaybeTime::Some(float::f64_of(nth(n, 9)))
+    Some(F64::from_bits(nth(n, 9)))
 }
 
-fn color_from(n: &[u64]) -> MaybeColor
+fn color_from(n: &[u64]) -> Option<Color>
     ensures { result ≡ color_from (get_or n.now 10 0) (get_or n.now 11 0) (get_or n.now 12 0) (get_or n.now 13 0) }
 {
     if nth(n, 10) == 0 {
-        return MaybeColor::None;
+        return None;
     }
-    MaybeColor::Some(Color {
+    Some(Color {
         red: low16(n, 11),
         green: low16(n, 12),
         blue: low16(n, 13),
     })
 }
 
-fn nir_from(n: &[u64]) -> MaybeNir
+fn nir_from(n: &[u64]) -> Option<u16>
     ensures { result ≡ nir_from (get_or n.now 14 0) (get_or n.now 15 0) }
 {
     if nth(n, 14) == 0 {
-        return MaybeNir::None;
+        return None;
     }
-    MaybeNir::Some(low16(n, 15))
+    Some(low16(n, 15))
 }
 
 // The bits of a waveform's four floats.
@@ -266,11 +263,11 @@ struct Bits {
     z_t: u32,
 }
 
-fn maybe_waveform_from(n: &[u64]) -> MaybeWaveform
+fn maybe_waveform_from(n: &[u64]) -> Option<Waveform>
     ensures { result ≡ maybe_waveform_from n.now }
 {
     if nth(n, 16) == 0 {
-        return MaybeWaveform::None;
+        return None;
     }
     let bits = Bits {
         location: low32(n, 20),
@@ -278,16 +275,16 @@ fn maybe_waveform_from(n: &[u64]) -> MaybeWaveform
         y_t: low32(n, 22),
         z_t: low32(n, 23),
     };
-    MaybeWaveform::Some(waveform_from(low8(n, 17), nth(n, 18), low32(n, 19), bits))
+    Some(waveform_from(low8(n, 17), nth(n, 18), low32(n, 19), bits))
 }
 
 fn waveform_from(index: u8, offset: u64, size: u32, bits: Bits) -> Waveform
     ensures { result ≡ waveform_from index offset size bits }
 {
-    let location = float::f32_of(bits.location);
-    let x_t = float::f32_of(bits.x_t);
-    let y_t = float::f32_of(bits.y_t);
-    let z_t = float::f32_of(bits.z_t);
+    let location = F32::from_bits(bits.location);
+    let x_t = F32::from_bits(bits.x_t);
+    let y_t = F32::from_bits(bits.y_t);
+    let z_t = F32::from_bits(bits.z_t);
     let nans = WaveformNans {
         return_point_waveform_location: location.nan,
         x_t: x_t.nan,

@@ -6,7 +6,7 @@ ghost use Rattle.std.specs.Prelude.{◌≡◌};
 ghost use Rattle.reclassify.specs.Reclassify.{asked_of, reclassified_of};
 ghost use Rattle.capi_reclassify.specs.Rows.{asked_row, reclassified_row};
 
-use reclassify::{Asked, Reclassified};
+use refusal::Refused;
 
 // Gives this class to the point of this number, the first being 1, in the file.
 #[unsafe(no_mangle)]
@@ -20,8 +20,8 @@ pub extern "C" fn las_reclassify(
     ensures { (row.new, file.new) ≡ reclassified_row (reclassified_of allowance point class file.old) }
 {
     match reclassify::reclassify(file, allowance, point, class) {
-        Reclassified::Was(was) => words::tell(row, 0, was as u64, 0),
-        Reclassified::Refused { refusal, record } => words::refuse(row, refusal, record),
+        Ok(was) => words::tell(row, 0, was as u64, 0),
+        Err(refused) => words::refuse(row, refused.refusal, refused.record),
     }
 }
 
@@ -39,10 +39,10 @@ pub extern "C" fn las_reclassify_ask(
     ensures { (row.new, change.new) ≡ asked_row (asked_of allowance point class file.now) change.old }
 {
     match reclassify::ask(file, allowance, point, class) {
-        Asked::Byte(c) => {
+        Ok(c) => {
             *change = [c.at, c.byte as u64];
             words::tell(row, 0, c.class as u64, 0)
         }
-        Asked::Refused { refusal, record } => words::refuse(row, refusal, record),
+        Err(refused) => words::refuse(row, refused.refusal, refused.record),
     }
 }

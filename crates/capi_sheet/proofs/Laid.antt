@@ -1,27 +1,14 @@
 -- Numbers stored one run after the other.
-use Prim.Native.Nat.{ℕ, ◌+◌, ◌≤◌}
-use mathlib.Core.Path.{◌≡◌, ap, ◌∙◌}
-use mathlib.Core.List.{List, [], ◌++◌, append-nil}
-use native.Mathlib.Omega.{arith}
-use lib.ListN.{length, take, drop, length-drop, drop_of_length-le}
-use lib.Seq.{paste, take-length, take-paste, length-paste, length-take-le}
+use Rattle.std.proofs.Common.{ℕ, ◌+◌, ◌≡◌, List, [], ◌++◌, length, drop, sym, arith, length-append, length-drop, append_assoc, append-nil}
+use Rattle.std.proofs.lemmas.List.{take_at, drop_at}
+use lib.ListN.{drop_of_length-le}
+use borrow.Rule.Slice.PartMut.{put_mid}
 
--- the front of d is p, and q of m numbers is stored behind it
-pub behind : (d p q : List ℕ) (k m : ℕ) {e : List ℕ} → length q ≡ m → k + m ≤ length d → take k d ≡ p → e ≡ paste d k q (length q) → (length e ≡ length d) × (take (k + m) e ≡ p ++ q)
-behind d p q k m size h front is =
-    let all : length q ≤ length q = omega arith in
-    let room : k + length q ≤ length d = omega arith in (
-      ap length is ∙ length-paste d k q (length q) room all,
-      rw (← size) (ap (take (k + length q)) is ∙ take-paste d k q (length q) (omega arith) all ∙ (λ j. front j ++ take-length q j)),
-    )
-
--- p stored over the whole of d
-pub over : (d p : List ℕ) → length d ≡ length p → paste d 0 p (length p) ≡ p
-over d p h =
-    let short : length d ≤ 0 + length p = omega arith in
-    let past : drop (0 + length p) d ≡ [] = drop_of_length-le d short in
-    (λ j. take-length p j ++ past j) ∙ append-nil p
-
--- a part has its length
-pub part_length : (n : List ℕ) (at size : ℕ) → at + size ≤ length n → length (take size (drop at n)) ≡ size
-part_length n at size h = length-take-le size (drop at n) (rw length-drop (omega arith))
+-- behind h, of a numbers, are stored c, of k, and then r, of m, to the end
+pub laid : (h c r rest : List ℕ) (a k b m : ℕ) → length h ≡ a → length c ≡ k → a + k ≡ b → length rest ≡ k + m → put_mid b m (put_mid a k (h ++ rest) c) r ≡ h ++ (c ++ r)
+laid h c r rest a k b m first second end all =
+    let tail = drop k rest in
+    let inner : put_mid a k (h ++ rest) c ≡ (h ++ c) ++ tail = rw (take_at h rest a first, drop_at h rest a first) (sym (append_assoc h c tail)) in
+    let size : length (h ++ c) ≡ b = omega (arith, length-append h c) in
+    let none : drop m tail ≡ [] = drop_of_length-le tail (omega (arith, length-drop k rest)) in
+    rw (inner, take_at (h ++ c) tail b size, drop_at (h ++ c) tail b size, none, append-nil) (append_assoc h c r)

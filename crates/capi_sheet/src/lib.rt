@@ -1,16 +1,14 @@
 // The site sheet for C and Rust: a file added to a sheet of numbers that the caller keeps. Rows are those of the crate words.
 #![tactic(auto)]
 
-ghost use Rattle.std.specs.Prelude.{◌≡◌, ◌+◌, ◌≤◌, length, replicate};
-ghost use Rattle.std.proofs.Math.Seq.{paste};
+ghost use Rattle.std.specs.Prelude.{◌≡◌, ◌≤◌, length};
 ghost use Rattle.std.specs.Int.{w32};
 ghost use Rattle.std.proofs.Common.{of_z};
 ghost use Rattle.sheet.specs.Sheet.{added_of};
 ghost use Rattle.capi_sheet.specs.Numbers.{range_from, bounds_from, part_from, sheet_from, head_numbers, sheet_numbers, added_row};
 
-use le::signed;
-use sheet::{Answer, Sheet};
-use sheet_count::{Bounds, Extent, Range};
+use sheet::Sheet;
+use sheet_count::{Extent, Range};
 
 // Adds a file to the sheet; a refused one leaves it.
 #[unsafe(no_mangle)]
@@ -22,15 +20,13 @@ pub extern "C" fn las_sheet_add(
 )
     ensures { (row.new, sheet.new) ≡ added_row (added_of allowance (sheet_from sheet.old) file.now) sheet.old }
 {
-    let added = sheet::add(sheet_from(sheet), file, allowance);
-    let answer = added.answer;
-    match answer {
-        Answer::Added => {
-            let after = added.sheet;
+    let mut after = sheet_from(sheet);
+    match sheet::add(&mut after, file, allowance) {
+        Ok(()) => {
             *sheet = sheet_numbers(after);
             words::tell(row, 0, 0, 0)
         }
-        Answer::Refused { refusal, record } => words::refuse(row, refusal, record),
+        Err(refused) => words::refuse(row, refused.refusal, refused.record),
     }
 }
 
@@ -38,26 +34,23 @@ pub extern "C" fn las_sheet_add(
 fn sheet_from(n: &[u64; 281]) -> Sheet
     ensures { result ≡ sheet_from n.now }
 {
-    let bounds = bounds_from(n);
-    let classes = classes_from(n);
-    let returns = returns_from(n);
     Sheet {
         files: n[0],
         points: n[1],
-        bounds,
-        classes,
-        returns,
+        bounds: bounds_from(n),
+        classes: classes_from(n),
+        returns: returns_from(n),
     }
 }
 
 // Its bounds, where it has some.
-fn bounds_from(n: &[u64]) -> Bounds
+fn bounds_from(n: &[u64]) -> Option<Extent>
     ensures { result ≡ bounds_from n.now }
 {
     if words::nth(n, 2) == 0 {
-        return Bounds::None;
+        return None;
     }
-    Bounds::Are(Extent {
+    Some(Extent {
         x: range_from(n, 3),
         y: range_from(n, 5),
         z: range_from(n, 7),
@@ -70,8 +63,8 @@ fn range_from(n: &[u64], k: usize) -> Range
     ensures { result ≡ range_from k n.now }
 {
     Range {
-        min: signed::signed32(words::low32(n, k)),
-        max: signed::signed32(words::low32(n, k + 1)),
+        min: words::low32(n, k).cast_signed(),
+        max: words::low32(n, k + 1).cast_signed(),
     }
 }
 
@@ -82,7 +75,7 @@ fn classes_from(n: &[u64]) -> [u64; 256]
     ensures { result ≡ part_from 9 256 n.now }
 {
     let mut classes = [0u64; 256];
-    put(&mut classes, 0, &n[9..265]);
+    classes.copy_from_slice(&n[9..265]);
     classes
 }
 
@@ -91,7 +84,7 @@ fn returns_from(n: &[u64]) -> [u64; 16]
     ensures { result ≡ part_from 265 16 n.now }
 {
     let mut returns = [0u64; 16];
-    put(&mut returns, 0, &n[265..281]);
+    returns.copy_from_slice(&n[265..281]);
     returns
 }
 
@@ -99,45 +92,30 @@ fn returns_from(n: &[u64]) -> [u64; 16]
 fn sheet_numbers(sheet: Sheet) -> [u64; 281]
     ensures { result ≡ sheet_numbers sheet }
 {
-    let bounds = sheet.bounds;
-    let head = head_numbers(sheet.files, sheet.points, bounds);
-    let classes = sheet.classes;
-    let returns = sheet.returns;
-    let mut numbers = zeros();
-    put(&mut numbers, 0, &head);
-    put(&mut numbers, 9, &classes);
-    put(&mut numbers, 265, &returns);
+    let mut numbers = [0; 281];
+    numbers[..9].copy_from_slice(&head_numbers(sheet.files, sheet.points, sheet.bounds));
+    numbers[9..265].copy_from_slice(&sheet.classes);
+    numbers[265..].copy_from_slice(&sheet.returns);
     numbers
 }
 
-fn zeros() -> [u64; 281]
-    ensures { result ≡ replicate 281 0 }
-{
-    [0; 281]
-}
-
 // Those before its counts.
-fn head_numbers(files: u64, points: u64, bounds: Bounds) -> [u64; 9]
+fn head_numbers(files: u64, points: u64, bounds: Option<Extent>) -> [u64; 9]
     ensures { result ≡ head_numbers files points bounds }
 {
     match bounds {
-        Bounds::None => [files, points, 0, 0, 0, 0, 0, 0, 0],
-        Bounds::Are(e) => {
-            let x = e.x;
-            let y = e.y;
-            let z = e.z;
-            [
-                files,
-                points,
-                1,
-                bits(x.min),
-                bits(x.max),
-                bits(y.min),
-                bits(y.max),
-                bits(z.min),
-                bits(z.max),
-            ]
-        }
+        None => [files, points, 0, 0, 0, 0, 0, 0, 0],
+        Some(e) => [
+            files,
+            points,
+            1,
+            bits(e.x.min),
+            bits(e.x.max),
+            bits(e.y.min),
+            bits(e.y.max),
+            bits(e.z.min),
+            bits(e.z.max),
+        ],
     }
 }
 
@@ -145,15 +123,5 @@ fn head_numbers(files: u64, points: u64, bounds: Bounds) -> [u64; 9]
 fn bits(z: i32) -> u64
     ensures { result ≡ of_z w32 z }
 {
-    signed::bits32(z) as u64
-}
-
-// Stores the numbers of src from `at` on.
-fn put(dst: &mut [u64], at: usize, src: &[u64])
-    requires { at + length src.now ≤ length dst.old }
-    ensures { dst.new ≡ paste dst.old at src.now (length src.now) }
-{
-    for i in 0..src.len() {
-        dst[at + i] = src[i];
-    }
+    z.cast_unsigned() as u64
 }

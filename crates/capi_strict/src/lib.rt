@@ -10,7 +10,6 @@ ghost use Rattle.capi_point.specs.Numbers.{numbers_of, point_from};
 ghost use Rattle.capi_strict.specs.Rows.{fit_row};
 
 use point::Point;
-use strict::Fit;
 
 // Whether a point goes into the old format with every field the same, or the first field that does not.
 #[unsafe(no_mangle)]
@@ -18,8 +17,8 @@ pub extern "C" fn las_strict_check(numbers: &[u64; 24], row: &mut [u64; 3])
     ensures { row.new ≡ fit_row (fit_of (point_from numbers.now)) }
 {
     match strict::check(capi_point::point_from(numbers)) {
-        Fit::Fits => words::tell(row, 0, 0, 0),
-        Fit::Refused(refusal) => words::refuse(row, refusal, 0),
+        Ok(()) => words::tell(row, 0, 0, 0),
+        Err(refusal) => words::refuse(row, refusal, 0),
     }
 }
 

@@ -1,15 +1,11 @@
 -- A VLR's or an EVLR's three numbers, both ways, and the rows of its calls.
-use Rattle.std.specs.Prelude.{ℕ, ◌%◌, Bool, true, false, cond, List, [], ◌∷◌, ltb, get_or, length}
+use Rattle.refusal.specs.declared.Refusal.{Refusal}
+use Rattle.std.specs.Prelude.{ℕ, ◌%◌, Bool, true, false, cond, List, [], ◌∷◌, ltb, get_or, length, Result, Ok, Err}
 use Rattle.refusal.specs.declared.Refusal.TheVariants.{VlrDataLength}
 use Rattle.words.specs.Rows.{refused_row, written_row, part_row}
 use Rattle.vlr.specs.declared.RecordLength.{RecordLength}
 use Rattle.vlr.specs.declared.RecordLength.TheVariants as kind
 use Rattle.vlr.specs.declared.Vlr.{Vlr}
-use Rattle.vlr.specs.declared.Extent.{Extent}
-use Rattle.vlr.specs.declared.Extent.TheVariants as extent
-use Rattle.vlr.specs.declared.VlrRead.{VlrRead}
-use Rattle.vlr.specs.declared.StatedLength.{StatedLength}
-use Rattle.vlr.specs.declared.StatedLength.TheVariants as stated
 use Rattle.vlr.specs.Layout.{head_size}
 use Rattle.vlr.specs.Vlr.{data_length, data_of, written_of}
 
@@ -22,22 +18,19 @@ abbrev pub lent_of : Vlr → List ℕ × List ℕ × List ℕ
 lent_of v = (numbers_of v, v.user_id, v.description)
 
 -- an extent's row, whose value is the bytes of the record in all
-abbrev pub extent_row : Extent → List ℕ
-extent_row (extent.Bytes n) = 0 ∷ n ∷ 0 ∷ []
-extent_row (extent.Refused r) = refused_row r 0
+abbrev pub extent_row : Result ℕ Refusal → List ℕ
+extent_row (Ok n) = 0 ∷ n ∷ 0 ∷ []
+extent_row (Err r) = refused_row r 0
 
 -- a stated length's row
-abbrev pub stated_row : StatedLength → List ℕ
-stated_row (stated.Is n) = 0 ∷ data_length n ∷ 0 ∷ []
-stated_row (stated.Refused r) = refused_row r 0
+abbrev pub stated_row : Result RecordLength Refusal → List ℕ
+stated_row (Ok n) = 0 ∷ data_length n ∷ 0 ∷ []
+stated_row (Err r) = refused_row r 0
 
--- a read's row, then the numbers, the user id and the description, which a refusal leaves
-abbrev pub told_of : Extent → Vlr → List ℕ → List ℕ → List ℕ → List ℕ × List ℕ × List ℕ × List ℕ
-told_of (extent.Bytes n) v numbers user_id description = (extent_row (extent.Bytes n), numbers_of v, v.user_id, v.description)
-told_of (extent.Refused r) v numbers user_id description = (extent_row (extent.Refused r), numbers, user_id, description)
-
-abbrev pub read_row : VlrRead → List ℕ → List ℕ → List ℕ → List ℕ × List ℕ × List ℕ × List ℕ
-read_row r = told_of r.answer r.vlr
+-- a read's row, which is its extent's, then the numbers, the user id and the description, which a refusal leaves
+abbrev pub read_row : Result ℕ Refusal → Result Vlr Refusal → List ℕ → List ℕ → List ℕ → List ℕ × List ℕ × List ℕ × List ℕ
+read_row e (Ok v) numbers user_id description = (extent_row e, numbers_of v, v.user_id, v.description)
+read_row e (Err r) numbers user_id description = (extent_row e, numbers, user_id, description)
 
 -- the place and the count of the bytes of data; two zeros where there are none, as on refusal
 unfoldable pub data_part : Bool → List ℕ → List ℕ

@@ -8,9 +8,8 @@ ghost use Rattle.vlr.specs.Layout.{head_size};
 ghost use Rattle.vlr.specs.Vlr.{stated_of, extent_of, no_vlr, read_of};
 ghost use Rattle.capi_vlr.specs.Rows.{numbers_of, lent_of, read_row, extent_row, stated_row, data_part, overlong, length_from, vlr_from, write_row};
 
-use lent::Wrote;
 use refusal::Refusal;
-use vlr::{Extent, RecordLength, StatedLength, Vlr};
+use vlr::{RecordLength, Vlr};
 
 // The head of the record at the start of s; the row's value is the bytes of the record, head and data. Where it is refused
 // the numbers, the user id and the description stay as they were.
@@ -22,21 +21,15 @@ pub fn las_vlr_read(
     user_id: &mut [u8; 16],
     description: &mut [u8; 32],
 )
-    ensures { (row.new, numbers.new, user_id.new, description.new) ≡ read_row (read_of extended s.now) numbers.old user_id.old description.old }
+    ensures { (row.new, numbers.new, user_id.new, description.new) ≡ read_row (extent_of extended s.now) (read_of extended s.now) numbers.old user_id.old description.old }
 {
-    let read = Vlr::read_from(s, extended);
-    let answer = read.answer;
-    match answer {
-        Extent::Bytes(n) => {
-            let vlr = read.vlr;
-            *numbers = numbers_of(vlr);
-            let user = vlr.user_id;
-            *user_id = user;
-            let described = vlr.description;
-            *description = described;
-            words::tell(row, 0, n as u64, 0)
-        }
-        Extent::Refused(refusal) => words::refuse(row, refusal, 0),
+    las_vlr_measure(s, extended, row);
+    if let Ok(vlr) = Vlr::read_from(s, extended) {
+        *numbers = numbers_of(vlr);
+        let user = vlr.user_id;
+        *user_id = user;
+        let described = vlr.description;
+        *description = described;
     }
 }
 
@@ -67,8 +60,8 @@ pub fn las_vlr_write(
     }
     let vlr = vlr_from(extended, numbers, user_id, description);
     match vlr_write::write_to(vlr, data, dst) {
-        Wrote::Bytes(n) => words::tell(row, 0, n as u64, 0),
-        Wrote::Refused(refusal) => words::refuse(row, refusal, 0),
+        Ok(n) => words::tell(row, 0, n as u64, 0),
+        Err(refusal) => words::refuse(row, refusal, 0),
     }
 }
 
@@ -77,8 +70,8 @@ pub fn las_vlr_measure(s: &[u8], extended: bool, row: &mut [u64; 3])
     ensures { row.new ≡ extent_row (extent_of extended s.now) }
 {
     match vlr::measure(s, extended) {
-        Extent::Bytes(n) => words::tell(row, 0, n as u64, 0),
-        Extent::Refused(refusal) => words::refuse(row, refusal, 0),
+        Ok(n) => words::tell(row, 0, n as u64, 0),
+        Err(refusal) => words::refuse(row, refusal, 0),
     }
 }
 
@@ -94,8 +87,8 @@ pub fn las_vlr_stated(s: &[u8], extended: bool, row: &mut [u64; 3])
     ensures { row.new ≡ stated_row (stated_of extended s.now) }
 {
     match vlr::stated(s, extended) {
-        StatedLength::Is(stated) => words::tell(row, 0, stated.to_u64(), 0),
-        StatedLength::Refused(refusal) => words::refuse(row, refusal, 0),
+        Ok(stated) => words::tell(row, 0, stated.to_u64(), 0),
+        Err(refusal) => words::refuse(row, refusal, 0),
     }
 }
 

@@ -17,7 +17,7 @@ pub extern "C" fn las_vlr_read(
     user_id: &mut [u8; 16],
     description: &mut [u8; 32],
 )
-    ensures { (row.new, numbers.new, user_id.new, description.new) ≡ read_row (read_of extended s.now) numbers.old user_id.old description.old }
+    ensures { (row.new, numbers.new, user_id.new, description.new) ≡ read_row (extent_of extended s.now) (read_of extended s.now) numbers.old user_id.old description.old }
 {
     capi_vlr::las_vlr_read(s, extended, row, numbers, user_id, description)
 }

@@ -1,21 +1,20 @@
 -- A walker's place as seven numbers, both ways, and the rows of its steps.
+use Rattle.std.specs.Prelude.{Result, Ok, Err}
+use Rattle.refusal.specs.declared.Refused.{Refused}
+use Rattle.point.specs.declared.Point.{Point}
 use Rattle.std.specs.Prelude.{ℕ, ◌%◌, ◌≡◌, refl, cond, List, [], ◌∷◌, eqb, get_or, length}
 use Rattle.refusal.specs.declared.Row.{Row}
 use Rattle.refusal.specs.Table.{row_of}
 use Rattle.words.specs.Words.{format_of_word, format_word}
 use Rattle.words.specs.Rows.{refused_row, part_row}
-use Rattle.walker.specs.declared.Start.{Start}
-use Rattle.walker.specs.declared.Start.TheVariants as start
 use Rattle.walker.specs.declared.Place.{Place}
-use Rattle.walker.specs.declared.Walked.{Walked}
-use Rattle.walker.specs.declared.Walked.TheVariants as walked
 use Rattle.walker.specs.Walk.{record_of, took_of}
 use Rattle.capi_point.specs.Numbers.{numbers_of}
 
 -- how a walk began
-abbrev pub start_row : Start → Row
-start_row start.Accepted = record { number = 0; value = 0; «record» = 0 }
-start_row (start.Refused r k) = row_of r k
+abbrev pub start_row : Result Unit Refused → Row
+start_row (Ok tt) = record { number = 0; value = 0; «record» = 0 }
+start_row (Err err) = row_of err.refusal err.«record»
 
 -- a place as seven numbers, and the place of seven numbers
 unfoldable pub place_numbers : Place → List ℕ
@@ -25,12 +24,12 @@ place_numbers p =
 
 unfoldable pub place_from : List ℕ → Place
 place_from n =
-    record { format = format_of_word (get_or n 0 0 % 4294967296); at = get_or n 1 0; left = get_or n 2 0; count = get_or n 3 0; start = start.Accepted }
+    record { format = format_of_word (get_or n 0 0 % 4294967296); at = get_or n 1 0; left = get_or n 2 0; count = get_or n 3 0; start = (Ok tt) }
 
 -- a step's place, row and numbers; where there is no point the place and the numbers stay
-abbrev pub took_row : List ℕ → List ℕ → Walked → Place → List ℕ × List ℕ × List ℕ
-took_row n numbers (walked.Point p) next = (place_numbers next, 0 ∷ 0 ∷ 0 ∷ [], numbers_of p)
-took_row n numbers (walked.Refused r k) next = (n, refused_row r k, numbers)
+abbrev pub took_row : List ℕ → List ℕ → Result Point Refused → Place → List ℕ × List ℕ × List ℕ
+took_row n numbers (Ok p) next = (place_numbers next, 0 ∷ 0 ∷ 0 ∷ [], numbers_of p)
+took_row n numbers (Err err) next = (n, refused_row err.refusal err.«record», numbers)
 
 -- the next point of the place n: a refused walk repeats its refusal
 unfoldable pub next_row : List ℕ → List ℕ → List ℕ → List ℕ × List ℕ × List ℕ

@@ -9,8 +9,8 @@ ghost use Rattle.std.specs.Prelude.{◌≡◌};
 ghost use Rattle.walker.specs.Begin.{begin_of};
 ghost use Rattle.capi_walker.specs.Rows.{start_row, place_with, place_numbers, place_from, next_row, record_part};
 
-use refusal::Row;
-use walker::{Place, Start, Walked};
+use refusal::{Refused, Row};
+use walker::Place;
 
 // A walker's place before the first point of the file, or, where the file is refused, one that repeats the refusal.
 #[unsafe(no_mangle)]
@@ -38,13 +38,13 @@ pub extern "C" fn las_file_next(
     let took = walker::take_at(file, place_from(place));
     let answer = took.answer;
     match answer {
-        Walked::Point(point) => {
+        Ok(point) => {
             let next = took.next;
             *place = numbers_with(next, accepted());
             *numbers = capi_point::numbers_of(point);
             words::tell(row, 0, 0, 0)
         }
-        Walked::Refused { refusal, record } => words::refuse(row, refusal, record),
+        Err(refused) => words::refuse(row, refused.refusal, refused.record),
     }
 }
 
@@ -86,18 +86,18 @@ fn numbers_with(place: Place, told: Row) -> [u64; 7]
 }
 
 // How a walk began, as a row; three zeros where the file was accepted.
-fn start_row(start: Start) -> Row
+fn start_row(start: Result<(), Refused>) -> Row
     ensures { result ≡ start_row start }
 {
     match start {
-        Start::Accepted => accepted(),
-        Start::Refused { refusal, record } => refusal.row(record),
+        Ok(()) => accepted(),
+        Err(refused) => refused.refusal.row(refused.record),
     }
 }
 
 // The row of a walk over an accepted file.
 fn accepted() -> Row
-    ensures { result ≡ start_row Start.Accepted }
+    ensures { result ≡ start_row (Ok tt) }
 {
     Row {
         number: 0,
@@ -115,6 +115,6 @@ fn place_from(n: &[u64; 7]) -> Place
         at: n[1] as usize,
         left: n[2],
         count: n[3],
-        start: Start::Accepted,
+        start: Ok(()),
     }
 }

@@ -1,7 +1,8 @@
 -- Columns: document 02, No. 6, "one field of many points: X, Y, Z, time, red, green, blue or NIR, for a stretch of points", each "straight to
 -- [its] place in the record".
-use Rattle.std.specs.Prelude.{ℕ, zero, suc, ◌+◌, ◌*◌, ◌-◌, ◌≤◌, ◌<◌, Bool, cond, ◌&&◌, List, [], ◌∷◌, ◌++◌, ltb, leb, Float, length, drop}
-use Rattle.refusal.specs.declared.Refusal.{Refusal}
+use Rattle.std.specs.Prelude.{Result, Ok, Err, ℕ, zero, suc, ◌+◌, ◌*◌, ◌-◌, ◌≤◌, ◌<◌, Bool, cond, ◌&&◌, List, [], ◌∷◌, ◌++◌, ltb, leb, Float, length, drop}
+use Rattle.refusal.specs.Refused.{at_record}
+use Rattle.refusal.specs.declared.Refused.{Refused}
 use Rattle.refusal.specs.declared.Refusal.TheVariants.{NoRoom, Index, FieldLacking}
 use Rattle.le.specs.Le.{num}
 use Rattle.le.specs.Real.{f64_of}
@@ -9,16 +10,12 @@ use Rattle.format.specs.declared.Format.{Format}
 use Rattle.format.specs.declared.Field.{Field}
 use Rattle.format.specs.declared.Field.TheVariants as field
 use Rattle.format.specs.Fields.{place_of, has_of, record_bytes}
-use Rattle.walker.specs.declared.Start.{Start}
-use Rattle.walker.specs.declared.Start.TheVariants as start
 use Rattle.walker.specs.declared.Place.{Place}
 use Rattle.walker.specs.Begin.{begin_of}
 use Rattle.column.specs.declared.Axis.TheVariants.{X, Y, Z}
 use Rattle.column.specs.declared.Channel.TheVariants.{Red, Green, Blue, Nir}
 use Rattle.column.specs.declared.Column.{Column}
 use Rattle.column.specs.declared.Column.TheVariants.{Axis, Time, Channel}
-use Rattle.column.specs.declared.Filled.{Filled}
-use Rattle.column.specs.declared.Filled.TheVariants.{Entries, Refused}
 use Rattle.column.specs.declared.Stretch.{Stretch}
 
 -- the field that a column is of, in the field table of a record
@@ -77,45 +74,38 @@ module _ {A : Type 0} (value : ℕ → A) (w at stride : ℕ) where
 unfoldable pub within : ℕ → ℕ → ℕ → Bool
 within first count points = ltb 0 first && leb (first - 1 + count) points
 
-unfoldable pub refused_stretch : Refusal → ℕ → Stretch
-refused_stretch r k = record { answer = Refused r k; at = 0; stride = 0; count = 0 }
-
 -- the stretch of a field in points of a format that start at `at`
 abbrev pub stretch_at : Format → ℕ → Column → ℕ → ℕ → Stretch
 stretch_at f at c first count =
-    record {
-      answer = Entries count;
-      at = at + (first - 1) * record_bytes f + place_in f c;
-      stride = record_bytes f;
-      count = count;
-    }
+    record { at = at + (first - 1) * record_bytes f + place_in f c; stride = record_bytes f; count = count }
 
 -- "Refusals, in order: file check; field lacking; stretch not within the points (27); no room."
-unfoldable pub stretch_in : Format → ℕ → ℕ → Column → ℕ → ℕ → ℕ → Stretch
+unfoldable pub stretch_in : Format → ℕ → ℕ → Column → ℕ → ℕ → ℕ → Result Stretch Refused
 stretch_in f at points c first count room =
     cond (has_in f c)
     (cond (within first count points)
-    (cond (ltb room count) (refused_stretch (NoRoom count) 0) (stretch_at f at c first count))
-    (refused_stretch (Index points) 0))
-    (refused_stretch FieldLacking 0)
+    (cond (ltb room count) (Err (at_record (NoRoom count) 0)) (Ok (stretch_at f at c first count)))
+    (Err (at_record (Index points) 0)))
+    (Err (at_record FieldLacking 0))
 
 -- by what a walker of the file starts from
-abbrev pub stretch_by : Place → Column → ℕ → ℕ → ℕ → Start → Stretch
-stretch_by p c first count room start.Accepted = stretch_in p.format p.at p.count c first count room
-stretch_by p c first count room (start.Refused r k) = refused_stretch r k
+abbrev pub stretch_by : Place → Column → ℕ → ℕ → ℕ → Result Unit Refused → Result Stretch Refused
+stretch_by p c first count room (Ok tt) = stretch_in p.format p.at p.count c first count room
+stretch_by p c first count room (Err err) = Err err
 
-unfoldable pub stretch_of : ℕ → Column → ℕ → ℕ → ℕ → List ℕ → Stretch
+unfoldable pub stretch_of : ℕ → Column → ℕ → ℕ → ℕ → List ℕ → Result Stretch Refused
 stretch_of allowance c first count room s =
     stretch_by (begin_of allowance s) c first count room (begin_of allowance s).start
 
 -- what a column answers, and the buffer d after it
 module _ {A : Type 0} (value : ℕ → A) where
-  abbrev pub filled_by : ℕ → Stretch → List ℕ → List A → Filled × List A
-  filled_by w t s d = (t.answer, filled_of value w t.at t.stride t.count s d)
+  abbrev pub filled_by : ℕ → ℕ → Result Stretch Refused → List ℕ → List A → Result ℕ Refused × List A
+  filled_by w count (Ok t) s d = (Ok count, filled_of value w t.at t.stride t.count s d)
+  filled_by w count (Err err) s d = (Err err, d)
 
-  unfoldable pub column_of : Column → ℕ → ℕ → ℕ → List ℕ → List A → Filled × List A
+  unfoldable pub column_of : Column → ℕ → ℕ → ℕ → List ℕ → List A → Result ℕ Refused × List A
   column_of c allowance first count s d =
-      filled_by (width_of c) (stretch_of allowance c first count (length d) s) s d
+      filled_by (width_of c) count (stretch_of allowance c first count (length d) s) s d
 
 -- n numbers of w bytes, the first at `at` and each `stride` bytes after the one before it, stand in s and do not overlap
 pub record Lie (w at stride n : ℕ) (s : List ℕ) : Type 0 where

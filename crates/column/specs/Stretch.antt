@@ -1,5 +1,8 @@
 -- Laws of stretches: what each test of their definition says, and that the numbers of a stretch stand in its file.
-use Rattle.std.specs.Prelude.{ℕ, ◌+◌, ◌*◌, ◌-◌, ◌≤◌, ◌<◌, ◌≡◌, refl, Bool, true, false, ◌&&◌, List, ltb, leb, length}
+use Rattle.std.specs.Prelude.{Result, Ok, Err, ℕ, ◌+◌, ◌*◌, ◌-◌, ◌≤◌, ◌<◌, ◌≡◌, refl, Bool, true, false, ◌&&◌, List, ltb, leb, length}
+use Rattle.refusal.specs.Refused.{at_record, ok_same}
+use Rattle.refusal.specs.declared.Refused.{Refused}
+use Rattle.rules.specs.declared.NotAccepted.{NotAccepted}
 use Rattle.std.proofs.Math.Path.{ap}
 use Rattle.std.proofs.Common.{sym, subst, ◌∙◌, add-mul, mul-le-mul_right, arith}
 use borrow.Author.Tests.{lt-ltb, le-ltb, le-leb, ltb-true, ltb-false, leb-true}
@@ -10,12 +13,9 @@ use Rattle.format.specs.Fields.{place_of, size_of, record_bytes}
 use Rattle.format.specs.declared.Field.TheVariants.{ExtraBytes}
 use Rattle.format.specs.Laws.{fixed_le}
 use Rattle.format.specs.Each.{field-within}
-use Rattle.rules.specs.declared.Checked.{Checked}
-use Rattle.rules.specs.declared.Checked.TheVariants as checked
 use Rattle.file.specs.Rules.{checked_of}
 use Rattle.file.specs.Points.{format_long}
 use Rattle.file.specs.Theorems.{accepted-holds}
-use Rattle.walker.specs.declared.Start.TheVariants as start
 use Rattle.walker.specs.Begin.{begin_of}
 use Rattle.walker.specs.Accepted.{begins, begins_refused}
 use Rattle.column.specs.declared.Axis.TheVariants.{X, Y, Z}
@@ -24,7 +24,7 @@ use Rattle.column.specs.declared.Column.{Column}
 use Rattle.column.specs.declared.Column.TheVariants.{Axis, Time, Channel}
 use Rattle.column.specs.declared.Stretch.{Stretch}
 use Rattle.column.specs.Exact.{format_in, start_in, points_in, Within, Accepted, Has, Lies, RefusedFor, file_check, field_lacking, not_within, no_room, FilledFor}
-use Rattle.column.specs.Column.{field_of, width_of, has_in, place_in, within, refused_stretch, stretch_at, stretch_in, stretch_of, filled_of, filled_by, column_of, Lie}
+use Rattle.column.specs.Column.{field_of, width_of, has_in, place_in, within, stretch_at, stretch_in, stretch_of, filled_of, filled_by, column_of, Lie}
 
 -- what the test says
 pub inside : (first count points : ℕ) → Within first count points → within first count points ≡ true
@@ -63,42 +63,38 @@ in_record f c has = (omega (arith, field-within f (field_of c) has, (in_field f 
 
 module _ (f : Format) (at points : ℕ) (c : Column) (first count room : ℕ) where
   -- the refusals in their order, and where there is none
-  pub lacking : has_in f c ≡ false → stretch_in f at points c first count room ≡ refused_stretch FieldLacking 0
+  pub lacking : has_in f c ≡ false → stretch_in f at points c first count room ≡ Err (at_record FieldLacking 0)
   unfolding stretch_in
   lacking e = rw e
 
   module _ (has : has_in f c ≡ true) where
-    pub beyond : within first count points ≡ false → stretch_in f at points c first count room ≡ refused_stretch (Index points) 0
+    pub beyond : within first count points ≡ false → stretch_in f at points c first count room ≡ Err (at_record (Index points) 0)
     unfolding stretch_in
     beyond e = rw (has, e)
 
     module _ (in_points : within first count points ≡ true) where
-      pub short : room < count → stretch_in f at points c first count room ≡ refused_stretch (NoRoom count) 0
+      pub short : room < count → stretch_in f at points c first count room ≡ Err (at_record (NoRoom count) 0)
       unfolding stretch_in
       short h = rw (has, in_points, lt-ltb _ _ h)
 
-      pub there : count ≤ room → stretch_in f at points c first count room ≡ stretch_at f at c first count
+      pub there : count ≤ room → stretch_in f at points c first count room ≡ Ok (stretch_at f at c first count)
       unfolding stretch_in
       there h = rw (has, in_points, le-ltb _ _ h)
 
 -- the points of an accepted file end in it
-points-end : (allowance : ℕ) (s : List ℕ) {n : ℕ} → checked_of allowance s ≡ checked.Accepted n → start_in s + points_in s * record_bytes (format_in s) ≤ length s
+points-end : (allowance : ℕ) (s : List ℕ) {n : ℕ} → checked_of allowance s ≡ Ok n → start_in s + points_in s * record_bytes (format_in s) ≤ length s
 points-end allowance s e = let holds = accepted-holds allowance s e in rw (format_long allowance s holds) holds.parts.points-within
 
-pub ends : (allowance : ℕ) (s : List ℕ) → (let p = begin_of allowance s in p.start ≡ start.Accepted → p.at + p.count * record_bytes p.format ≤ length s)
+pub ends : (allowance : ℕ) (s : List ℕ) → (let p = begin_of allowance s in p.start ≡ (Ok tt) → p.at + p.count * record_bytes p.format ≤ length s)
 ends allowance s accepted = go (checked_of allowance s) refl
   where
-    go : (x : Checked) → checked_of allowance s ≡ x → (let p = begin_of allowance s in p.at + p.count * record_bytes p.format ≤ length s)
-    go (checked.Accepted n) e = let (f, at, count, is) = begins allowance s e in rw (f, at, count) (points-end allowance s e)
-    go (checked.Refused r m n) e = let no = begins_refused allowance s e in let z : ◌≡◌ {A = ℕ} 0 1 = cc in absurd (omega arith)
+    go : (x : Result ℕ NotAccepted) → checked_of allowance s ≡ x → (let p = begin_of allowance s in p.at + p.count * record_bytes p.format ≤ length s)
+    go (Ok n) e = let (f, at, count, is) = begins allowance s e in rw (f, at, count) (points-end allowance s e)
+    go (Err err) e = let no = begins_refused allowance s e in let z : ◌≡◌ {A = ℕ} 0 1 = cc in absurd (omega arith)
 
 -- the numbers of a stretch stand in s, and there is room for them
 abbrev pub Stands : Column → List ℕ → ℕ → Stretch → Type 0
 Stands c s room t = Lie (width_of c) t.at t.stride t.count s × (t.count ≤ room)
-
-none_stand : (c : Column) (s : List ℕ) (room : ℕ) (r : Refusal) (k : ℕ) → Stands c s room (refused_stretch r k)
-unfolding refused_stretch
-none_stand c s room r k = (record { each = λ i h. absurd (omega arith); apart = λ h. absurd (omega arith); strides = omega arith }, omega arith)
 
 module _ (allowance : ℕ) (c : Column) (first count room : ℕ) (s : List ℕ) where
   -- what a stretch of an accepted file is, and of a refused one
@@ -106,14 +102,14 @@ module _ (allowance : ℕ) (c : Column) (first count room : ℕ) (s : List ℕ) 
   unfolding stretch_of
   of-accepted (n, e) = let (f, at, count, is) = begins allowance s e in rw (is, f, at, count)
 
-  pub then_refused : {why : Refusal} {j : ℕ} → RefusedFor allowance c first count room s why j → stretch_of allowance c first count room s ≡ refused_stretch why j
+  pub then_refused : {why : Refusal} {j : ℕ} → RefusedFor allowance c first count room s why j → stretch_of allowance c first count room s ≡ Err (at_record why j)
   unfolding stretch_of
   then_refused (file_check e) = rw (begins_refused allowance s e)
   then_refused (field_lacking a h) = of-accepted a ∙ lacking _ _ _ c first count room h
   then_refused (not_within (a, h) w) = of-accepted a ∙ beyond _ _ _ c first count room h (outside first count (points_in s) w)
   then_refused (no_room ((a, h), w) e) = of-accepted a ∙ short _ _ _ c first count room h (inside first count (points_in s) w) e
 
-  pub then_filled : FilledFor allowance c first count room s → stretch_of allowance c first count room s ≡ stretch_at (format_in s) (start_in s) c first count
+  pub then_filled : FilledFor allowance c first count room s → stretch_of allowance c first count room s ≡ Ok (stretch_at (format_in s) (start_in s) c first count)
   then_filled (((a, h), w), e) = of-accepted a ∙ there _ _ (points_in s) c first count room h (inside first count (points_in s) w) e
 
   -- there is a reason to refuse, or none
@@ -136,9 +132,9 @@ module _ (allowance : ℕ) (c : Column) (first count room : ℕ) (s : List ℕ) 
       by_field a true e = by_points (a, e) (within first count (points_in s)) refl
       by_field a false e = refused (field_lacking a e)
 
-      by_check_lem : (x : Checked) → checked_of allowance s ≡ x → Outcome
-      by_check_lem (checked.Accepted n) e = by_field (n, e) (has_in (format_in s) c) refl
-      by_check_lem (checked.Refused r m n) e = refused (file_check e)
+      by_check_lem : (x : Result ℕ NotAccepted) → checked_of allowance s ≡ x → Outcome
+      by_check_lem (Ok n) e = by_field (n, e) (has_in (format_in s) c) refl
+      by_check_lem (Err err) e = refused (file_check e)
 
   -- so its numbers stand in the file
   all_stand : FilledFor allowance c first count room s → Stands c s room (stretch_at (format_in s) (start_in s) c first count)
@@ -156,15 +152,20 @@ module _ (allowance : ℕ) (c : Column) (first count room : ℕ) (s : List ℕ) 
         roomy,
       )
 
-  stand : Outcome → Stands c s room (stretch_of allowance c first count room s)
-  stand (refused {why} {j} r) = subst (Stands c s room) (sym (then_refused r)) (none_stand c s room why j)
-  stand (filled r) = subst (Stands c s room) (sym (then_filled r)) (all_stand r)
+  stand : {t : Stretch} → stretch_of allowance c first count room s ≡ Ok t → Outcome → Stands c s room t
+  stand is (refused r) = let told = then_refused r in let z : ◌≡◌ {A = ℕ} 0 1 = cc in absurd (omega arith)
+  stand is (filled r) = subst (Stands c s room) (ok_same (sym (then_filled r) ∙ is)) (all_stand r)
 
 -- so of what `stretch_of` answers, and what a column leaves that fills it
 module _ (allowance : ℕ) (c : Column) (first count : ℕ) (s : List ℕ) where
-  pub standing : (room : ℕ) {t : Stretch} → t ≡ stretch_of allowance c first count room s → Stands c s room t
-  standing room is = subst (Stands c s room) (sym is) (stand allowance c first count room s (outcome allowance c first count room s))
+  pub standing : (room : ℕ) {t : Stretch} → stretch_of allowance c first count room s ≡ Ok t → Stands c s room t
+  standing room is = stand allowance c first count room s is (outcome allowance c first count room s)
 
-  pub column_is : {A : Type 0} (value : ℕ → A) (d : List A) {t : Stretch} {l : List A} → t ≡ stretch_of allowance c first count (length d) s → l ≡ filled_of value (width_of c) t.at t.stride t.count s d → (t.answer, l) ≡ column_of value c allowance first count s d
-  unfolding column_of
-  column_is value d {t} is fills = ap (λ l. (t.answer, l)) fills ∙ ap (λ (t : Stretch). filled_by value (width_of c) t s d) is
+  module _ {A : Type 0} (value : ℕ → A) (d : List A) where
+    pub column_is : {t : Stretch} {l : List A} → stretch_of allowance c first count (length d) s ≡ Ok t → l ≡ filled_of value (width_of c) t.at t.stride t.count s d → (Ok count, l) ≡ column_of value c allowance first count s d
+    unfolding column_of
+    column_is is fills = ap (λ (l : List A). (Ok count, l)) fills ∙ sym (ap (λ (t : Result Stretch Refused). filled_by value (width_of c) count t s d) is)
+
+    pub column_refused : {r : Refused} → stretch_of allowance c first count (length d) s ≡ Err r → (Err r, d) ≡ column_of value c allowance first count s d
+    unfolding column_of
+    column_refused is = sym (ap (λ (t : Result Stretch Refused). filled_by value (width_of c) count t s d) is)

@@ -1,5 +1,7 @@
 -- Laws of three columns in one pass, by what it is refused for or filled for.
-use Rattle.std.specs.Prelude.{ℕ, ◌+◌, ◌*◌, ◌-◌, ◌≤◌, min, ◌≡◌, refl, Bool, true, false, List, ◌⊎◌, ltb, ℤ, length}
+use Rattle.std.specs.Prelude.{Result, Ok, Err, ℕ, ◌+◌, ◌*◌, ◌-◌, ◌≤◌, min, ◌≡◌, refl, Bool, true, false, List, ◌⊎◌, ltb, ℤ, length}
+use Rattle.refusal.specs.Refused.{at_record, ok_same, refused_same}
+use Rattle.refusal.specs.declared.Refused.{Refused}
 use Rattle.std.proofs.Math.Path.{ap}
 use Rattle.std.proofs.Common.{sym, subst, ◌∙◌, inl, inr, le_refl, ltb-true, ltb-false, to_z}
 use native.Mathlib.Omega.{arith}
@@ -11,10 +13,8 @@ use Rattle.format.specs.Fields.{record_bytes}
 use Rattle.column.specs.declared.Axis as axes
 use Rattle.column.specs.declared.Axis.TheVariants.{X, Y, Z}
 use Rattle.column.specs.declared.Column.TheVariants.{Axis}
-use Rattle.column.specs.declared.Filled.{Filled}
-use Rattle.column.specs.declared.Filled.TheVariants.{Entries, Refused}
 use Rattle.column.specs.declared.Stretch.{Stretch}
-use Rattle.column.specs.Column.{has_in, firsts, filled_of, refused_stretch, stretch_at, stretch_of, column_of, Lie}
+use Rattle.column.specs.Column.{has_in, filled_of, stretch_at, stretch_of, column_of, Lie}
 use Rattle.column.specs.Exact.{format_in, start_in, RefusedFor, file_check, field_lacking, not_within, no_room, FilledFor}
 use Rattle.column.specs.Stretch.{in_record, standing, then_refused, then_filled, Outcome, refused, filled, outcome}
 use Rattle.column.specs.Told.{refused_is, filled_is, was-refused}
@@ -42,81 +42,80 @@ module _ (allowance first count : ℕ) (s : List ℕ) where
     abbrev room : ℕ
     room = min (min (length x) (length y)) (length z)
 
-    abbrev three : Filled × (List ℤ × List ℤ × List ℤ)
+    abbrev three : Result ℕ Refused × (List ℤ × List ℤ × List ℤ)
     three = xyz_of allowance first count s x y z
 
-    pub xyz_refused : {why : Refusal} {j : ℕ} → RefusedFor allowance (Axis X) first count room s why j → three ≡ (Refused why j, (x, y, z))
-    unfolding xyz_of filled_of firsts refused_stretch
-    xyz_refused r = ap (λ (t : Stretch). filled_by t s x y z) (then_refused allowance (Axis X) first count room s r)
+    pub xyz_refused : {why : Refusal} {j : ℕ} → RefusedFor allowance (Axis X) first count room s why j → three ≡ (Err (at_record why j), (x, y, z))
+    unfolding xyz_of
+    xyz_refused r = ap (λ (t : Result Stretch Refused). filled_by count t s x y z) (then_refused allowance (Axis X) first count room s r)
 
     abbrev at : ℕ
     at = (stretch_at (format_in s) (start_in s) (Axis X) first count).at
 
-    xyz_filled : FilledFor allowance (Axis X) first count room s → three ≡ (Entries count, filled_xyz at (record_bytes (format_in s)) count s x y z)
+    xyz_filled : FilledFor allowance (Axis X) first count room s → three ≡ (Ok count, filled_xyz at (record_bytes (format_in s)) count s x y z)
     unfolding xyz_of
-    xyz_filled r = ap (λ (t : Stretch). filled_by t s x y z) (then_filled allowance (Axis X) first count room s r)
+    xyz_filled r = ap (λ (t : Result Stretch Refused). filled_by count t s x y z) (then_filled allowance (Axis X) first count room s r)
 
     -- what its answer says
-    pub was_stopped : {why : Refusal} {j : ℕ} → three.0 ≡ Refused why j → RefusedFor allowance (Axis X) first count room s why j × (three.1 ≡ (x, y, z))
+    pub was_stopped : {why : Refusal} {j : ℕ} → three.0 ≡ Err (at_record why j) → RefusedFor allowance (Axis X) first count room s why j × (three.1 ≡ (x, y, z))
     was_stopped {why} {j} e = go (outcome allowance (Axis X) first count room s)
       where
         go : Outcome allowance (Axis X) first count room s → RefusedFor allowance (Axis X) first count room s why j × (three.1 ≡ (x, y, z))
         go (refused {why = r} {j = k} why-so) =
-            let told : three.0 ≡ Refused r k = ap (λ (p : Filled × (List ℤ × List ℤ × List ℤ)). p.0) (xyz_refused why-so) in
-            let same_why : r ≡ why = cc in
-            let same_record : k ≡ j = cc in
-            (rw (← same_why, ← same_record) why-so, ap (λ (p : Filled × (List ℤ × List ℤ × List ℤ)). p.1) (xyz_refused why-so))
+            let told : three.0 ≡ Err (at_record r k) = ap (λ (p : Result ℕ Refused × (List ℤ × List ℤ × List ℤ)). p.0) (xyz_refused why-so) in
+            let same = refused_same (sym told ∙ e) in
+            (rw (← same.0, ← same.1) why-so, ap (λ (p : Result ℕ Refused × (List ℤ × List ℤ × List ℤ)). p.1) (xyz_refused why-so))
         go (filled r) =
-            let told : three.0 ≡ Entries count = ap (λ (p : Filled × (List ℤ × List ℤ × List ℤ)). p.0) (xyz_filled r) in
+            let told : three.0 ≡ Ok count = ap (λ (p : Result ℕ Refused × (List ℤ × List ℤ × List ℤ)). p.0) (xyz_filled r) in
             let z : ◌≡◌ {A = ℕ} 0 1 = cc in
             absurd (omega arith)
 
-    pub was-filled : {n : ℕ} → three.0 ≡ Entries n → FilledFor allowance (Axis X) first count room s × (n ≡ count)
+    pub was-filled : {n : ℕ} → three.0 ≡ Ok n → FilledFor allowance (Axis X) first count room s × (n ≡ count)
     was-filled {n} e = go (outcome allowance (Axis X) first count room s)
       where
         go : Outcome allowance (Axis X) first count room s → FilledFor allowance (Axis X) first count room s × (n ≡ count)
         go (refused {why = r} {j = k} why-so) =
-            let told : three.0 ≡ Refused r k = ap (λ (p : Filled × (List ℤ × List ℤ × List ℤ)). p.0) (xyz_refused why-so) in
+            let told : three.0 ≡ Err (at_record r k) = ap (λ (p : Result ℕ Refused × (List ℤ × List ℤ × List ℤ)). p.0) (xyz_refused why-so) in
             let z : ◌≡◌ {A = ℕ} 0 1 = cc in
             absurd (omega arith)
-        go (filled r) = let told : three.0 ≡ Entries count = ap (λ (p : Filled × (List ℤ × List ℤ × List ℤ)). p.0) (xyz_filled r) in (r, cc)
+        go (filled r) = let told : three.0 ≡ Ok count = ap (λ (p : Result ℕ Refused × (List ℤ × List ℤ × List ℤ)). p.0) (xyz_filled r) in (r, cc)
 
     -- the three stand in the file, X first and Z last, and there is room for each
     abbrev Stands : Stretch → Type 0
     Stands t = Lie 12 t.at t.stride t.count s × (t.count ≤ room)
 
-    none_stand : (why : Refusal) (j : ℕ) → Stands (refused_stretch why j)
-    unfolding refused_stretch
-    none_stand why j = (record { each = λ i h. absurd (omega arith); apart = λ h. absurd (omega arith); strides = omega arith }, omega arith)
-
     all_stand : FilledFor allowance (Axis X) first count room s → Stands (stretch_at (format_in s) (start_in s) (Axis X) first count)
     all_stand r =
         let last = more_room X Z (le_refl room) r in
-        let (lie, roomy) = standing allowance (Axis Z) first count s room (sym (then_filled allowance (Axis Z) first count room s last)) in
+        let (lie, roomy) = standing allowance (Axis Z) first count s room (then_filled allowance (Axis Z) first count room s last) in
         let own = (in_record (format_in s) (Axis Z) (always (format_in s) Z)).0 in
         (record { each = λ i h. omega (arith, lie.each i h); apart = λ h. omega arith; strides = lie.strides }, roomy)
 
-    pub stands : {t : Stretch} → t ≡ stretch_of allowance (Axis X) first count room s → Stands t
+    pub stands : {t : Stretch} → stretch_of allowance (Axis X) first count room s ≡ Ok t → Stands t
     stands {t} is = go (outcome allowance (Axis X) first count room s)
       where
         go : Outcome allowance (Axis X) first count room s → Stands t
-        go (refused {why} {j} r) = subst Stands (sym (is ∙ then_refused allowance (Axis X) first count room s r)) (none_stand why j)
-        go (filled r) = subst Stands (sym (is ∙ then_filled allowance (Axis X) first count room s r)) (all_stand r)
+        go (refused r) = let told = then_refused allowance (Axis X) first count room s r in let z : ◌≡◌ {A = ℕ} 0 1 = cc in absurd (omega arith)
+        go (filled r) = subst Stands (ok_same (sym (then_filled allowance (Axis X) first count room s r) ∙ is)) (all_stand r)
 
-    pub xyz_is : {t : Stretch} {l : List ℤ × List ℤ × List ℤ} → t ≡ stretch_of allowance (Axis X) first count room s → l ≡ filled_xyz t.at t.stride t.count s x y z → (t.answer, l) ≡ three
+    pub xyz_is : {t : Stretch} {l : List ℤ × List ℤ × List ℤ} → stretch_of allowance (Axis X) first count room s ≡ Ok t → l ≡ filled_xyz t.at t.stride t.count s x y z → (Ok count, l) ≡ three
     unfolding xyz_of
-    xyz_is {t} is fills = ap (λ l. (t.answer, l)) fills ∙ ap (λ (t : Stretch). filled_by t s x y z) is
+    xyz_is is fills = ap (λ (l : List ℤ × List ℤ × List ℤ). (Ok count, l)) fills ∙ sym (ap (λ (t : Result Stretch Refused). filled_by count t s x y z) is)
+
+    pub xyz_stopped : {r : Refused} → stretch_of allowance (Axis X) first count room s ≡ Err r → (Err r, (x, y, z)) ≡ three
+    unfolding xyz_of
+    xyz_stopped is = sym (ap (λ (t : Result Stretch Refused). filled_by count t s x y z) is)
 
     -- what each column leaves
-    abbrev column : axes.Axis → List ℤ → Filled × List ℤ
+    abbrev column : axes.Axis → List ℤ → Result ℕ Refused × List ℤ
     column a d = column_of (to_z w32) (Axis a) allowance first count s d
 
-    one-column : (a : axes.Axis) (d l : List ℤ) → room ≤ length d → FilledFor allowance (Axis X) first count room s → filled_of (to_z w32) 4 (stretch_at (format_in s) (start_in s) (Axis a) first count).at (record_bytes (format_in s)) count s d ≡ l → column a d ≡ (Entries count, l)
-    one-column a d l h r is = filled_is (to_z w32) (Axis a) allowance first count s d (more_room X a h r) ∙ ap (λ (l : List ℤ). (Entries count, l)) is
+    one-column : (a : axes.Axis) (d l : List ℤ) → room ≤ length d → FilledFor allowance (Axis X) first count room s → filled_of (to_z w32) 4 (stretch_at (format_in s) (start_in s) (Axis a) first count).at (record_bytes (format_in s)) count s d ≡ l → column a d ≡ (Ok count, l)
+    one-column a d l h r is = filled_is (to_z w32) (Axis a) allowance first count s d (more_room X a h r) ∙ ap (λ (l : List ℤ). (Ok count, l)) is
 
-    pub three_columns : FilledFor allowance (Axis X) first count room s → (column X x ≡ (Entries count, three.1.0)) × (column Y y ≡ (Entries count, three.1.1)) × (column Z z ≡ (Entries count, three.1.2))
+    pub three_columns : FilledFor allowance (Axis X) first count room s → (column X x ≡ (Ok count, three.1.0)) × (column Y y ≡ (Ok count, three.1.1)) × (column Z z ≡ (Ok count, three.1.2))
     three_columns r =
-        let all = ap (λ (p : Filled × (List ℤ × List ℤ × List ℤ)). p.1) (xyz_filled r) in
+        let all = ap (λ (p : Result ℕ Refused × (List ℤ × List ℤ × List ℤ)). p.1) (xyz_filled r) in
         let fills : ℕ → List ℤ → List ℤ = λ k d. filled_of (to_z w32) 4 k (record_bytes (format_in s)) count s d in
         let second : start_in s + (first - 1) * record_bytes (format_in s) + 4 ≡ at + 4 = omega arith in
         let third : start_in s + (first - 1) * record_bytes (format_in s) + 8 ≡ at + 8 = omega arith in (
@@ -127,10 +126,10 @@ module _ (allowance first count : ℕ) (s : List ℕ) where
 
     -- and refuses: where the least of the three has no room, it is one of them
     abbrev Refuses : Refusal → ℕ → axes.Axis → List ℤ → Type 0
-    Refuses why j a d = (column a d).0 ≡ Refused why j
+    Refuses why j a d = (column a d).0 ≡ Err (at_record why j)
 
     refuses : (a : axes.Axis) (d : List ℤ) {why : Refusal} {j : ℕ} → RefusedFor allowance (Axis a) first count (length d) s why j → Refuses why j a d
-    refuses a d r = ap (λ (p : Filled × List ℤ). p.0) (refused_is (to_z w32) (Axis a) allowance first count s d r)
+    refuses a d r = ap (λ (p : Result ℕ Refused × List ℤ). p.0) (refused_is (to_z w32) (Axis a) allowance first count s d r)
 
     pub one_refuses : {why : Refusal} {j : ℕ} → RefusedFor allowance (Axis X) first count room s why j → Refuses why j X x ⊎ Refuses why j Y y ⊎ Refuses why j Z z
     one_refuses (file_check e) = inl (refuses X x (file_check e))

@@ -1,11 +1,12 @@
 // X, Y and Z of many points in one pass over their records, for document 02, No. 7: what the three columns of the crate column leave.
 #![tactic(auto)]
 
-ghost use Rattle.std.specs.Prelude.{◌≡◌, ◌≤◌, min, length};
+ghost use Rattle.std.specs.Prelude.{◌≡◌, ◌≤◌, length};
 ghost use Rattle.column.specs.Column.{Lie};
 ghost use Rattle.column_xyz.specs.Xyz.{filled_xyz, xyz_of};
 
-use column::{Axis, Column, Filled};
+use column::{Axis, Column};
+use refusal::Refused;
 
 // X, Y and Z of `count` points from point number `first` on, the first point being 1, to the front of xs, ys and zs, what lies past
 // them staying; the answer is the count. Refused with the file check's refusal; 27 with the point count where they are not all points
@@ -18,24 +19,18 @@ pub fn xyz_columns(
     xs: &mut [i32],
     ys: &mut [i32],
     zs: &mut [i32],
-) -> Filled
+) -> Result<u64, Refused>
     ensures { (result, (xs.new, ys.new, zs.new)) ≡ xyz_of allowance first count file.now xs.old ys.old zs.old }
 {
-    let room = least(least(xs.len(), ys.len()), zs.len());
-    let stretch = column::stretch_of(file, allowance, Column::Axis(Axis::X), first, count, room);
+    let room = xs.len().min(ys.len()).min(zs.len());
+    let stretch = column::stretch_of(file, allowance, Column::Axis(Axis::X), first, count, room)?;
     fill(file, stretch.at, stretch.stride, stretch.count, xs, ys, zs);
-    stretch.answer
-}
-
-// The smaller of two lengths.
-fn least(a: usize, b: usize) -> usize
-    ensures { result ≡ min a b }
-{
-    if a < b { a } else { b }
+    Ok(count)
 }
 
 // Three numbers one after the other, n times, from `first` on and each time `stride` bytes further: the first of them to xs, the others
 // to ys and zs. The part that is read is as long as the three, so that their reader tests no length.
+// Stays: one part of the file gives three numbers, where a column's fill takes one from each.
 fn fill(
     s: &[u8],
     first: usize,

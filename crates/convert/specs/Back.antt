@@ -1,6 +1,6 @@
 -- A run brought up and strictly down again.
+use Rattle.std.specs.Prelude.{Ok, ◌≡◌, ◌↔◌}
 use Prim.Native.Nat.{ℕ, zero, suc, ◌+◌, ◌*◌, ◌≤◌, ◌<◌}
-use Rattle.std.specs.Prelude.{◌≡◌, ◌↔◌}
 use Rattle.std.proofs.Math.Path.{ap, sym, subst}
 use Rattle.std.proofs.Common.{◌∙◌, zero-mul, arith, length-append, take-add}
 use Rattle.std.proofs.Math.Bool.{true, false}
@@ -14,12 +14,10 @@ use Rattle.le.specs.Laws.{bytes_take, bytes_drop}
 use Rattle.flags.specs.Readings.{class_of}
 use Rattle.point.specs.declared.Point.{Point}
 use Rattle.point.specs.Read.{point_of}
-use Rattle.strict.specs.declared.Fit.TheVariants as fit
 use Rattle.strict.specs.Fit.{fit_of}
 use Rattle.strict.specs.Shown.{Within90, up_image}
 use Rattle.pairs.specs.Paired.{Paired, shorter}
 use Rattle.strict.specs.Theorems.{down_again_exactly, up-and_down}
-use Rattle.convert.specs.declared.Converted.TheVariants as converted
 use Rattle.pairs.specs.Pairs.{format_with}
 use Rattle.judge.specs.Judge.{judged_of}
 use Rattle.convert.specs.Run.{image_of, images_of, to_old_of, to_new_of}
@@ -78,7 +76,7 @@ module _ {old new : ℕ} (pair : Up old new) (extra : ℕ) where
       ∙ ap (λ (j : ℕ). take j s) (sym sum)
 
   -- and each of the upgraded records fits exactly when the record was such a one
-  each_back : NotOverlong old new extra → (count : ℕ) (s rest : List ℕ) → le.Bytes s → run_length old extra count ≤ length s → (k : ℕ) → k < count → (fit_of (point_at new extra k (images_of true (plan_of (format_with old extra) (format_with new extra)) count s ++ rest)) ≡ fit.Fits) ↔ Comes (nth (length_of old extra) k s)
+  each_back : NotOverlong old new extra → (count : ℕ) (s rest : List ℕ) → le.Bytes s → run_length old extra count ≤ length s → (k : ℕ) → k < count → (fit_of (point_at new extra k (images_of true (plan_of (format_with old extra) (format_with new extra)) count s ++ rest)) ≡ Ok tt) ↔ Comes (nth (length_of old extra) k s)
   unfolding image_of
   each_back short count s rest bytes there k l =
       let m = length_of old extra in
@@ -90,11 +88,11 @@ module _ {old new : ℕ} (pair : Up old new) (extra : ℕ) where
       let long : length r ≡ m = nth-length m k count s l there in
       let image = image_at true up (up_sound short) k count s rest (takes_new up paired.is_new count s) there l (takes _) in
       let stands : up_image a b r ++ [] ≡ nth n k (images_of true up count s ++ rest) = append-nil (up_image a b r) ∙ sym image in
-      subst (λ (t : List ℕ). (fit_of (point_of b t) ≡ fit.Fits) ↔ Comes r) stands (down_again_exactly b a paired r (bytes_take m (drop (k * m) s) (bytes_drop (k * m) s bytes)) [] (omega arith))
+      subst (λ (t : List ℕ). (fit_of (point_of b t) ≡ Ok tt) ↔ Comes r) stands (down_again_exactly b a paired r (bytes_take m (drop (k * m) s) (bytes_drop (k * m) s bytes)) [] (omega arith))
 
   module _ (count : ℕ) (s d : List ℕ) where
     -- an upgrade is answered where the new record isn't overlong and neither side is short
-    pub upgrade_answered : length_of new extra ≤ 65535 → Enough old new extra count s d → (e : List ℕ) × (to_new_of old extra count s d ≡ (converted.Bytes (run_length new extra count), e))
+    pub upgrade_answered : length_of new extra ≤ 65535 → Enough old new extra count s d → (e : List ℕ) × (to_new_of old extra count s d ≡ (Ok (run_length new extra count), e))
     unfolding converted_of judged_of
     upgrade_answered long enough =
         let a = format_with old extra in
@@ -106,7 +104,7 @@ module _ {old new : ℕ} (pair : Up old new) (extra : ℕ) where
               ∙ rw (le-ltb (length s) (run_length old extra count) enough.0, le-ltb (length d) (run_length new extra count) enough.1),
         )
 
-    module _ {n : ℕ} {e : List ℕ} (bytes : le.Bytes s) (h : to_new_of old extra count s d ≡ (converted.Bytes n, e)) where
+    module _ {n : ℕ} {e : List ℕ} (bytes : le.Bytes s) (h : to_new_of old extra count s d ≡ (Ok n, e)) where
       upgraded : NotOverlong old new extra × Written true (plan_of (format_with old extra) (format_with new extra)) count s d n e
       upgraded =
           let ran = told-bytes true (format_with old extra) (format_with new extra) count s d (sym (up-told pair extra count s d) ∙ h) in
@@ -115,12 +113,12 @@ module _ {old new : ℕ} (pair : Up old new) (extra : ℕ) where
       there : run_length old extra count ≤ length s
       there = (goes true (plan_of (format_with old extra) (format_with new extra)) count s upgraded.1.fits).there
 
-      each_again : (k : ℕ) → k < count → (fit_of (point_at new extra k e) ≡ fit.Fits) ↔ Comes (nth (length_of old extra) k s)
+      each_again : (k : ℕ) → k < count → (fit_of (point_at new extra k e) ≡ Ok tt) ↔ Comes (nth (length_of old extra) k s)
       each_again k l =
-          subst (λ (t : List ℕ). (fit_of (point_at new extra k t) ≡ fit.Fits) ↔ Comes (nth (length_of old extra) k s)) (sym upgraded.1.stands) (each_back upgraded.0 count s _ bytes there k l)
+          subst (λ (t : List ℕ). (fit_of (point_at new extra k t) ≡ Ok tt) ↔ Comes (nth (length_of old extra) k s)) (sym upgraded.1.stands) (each_back upgraded.0 count s _ bytes there k l)
 
       -- and what it leaves goes down to the run's own bytes
-      pub answered_back : No28 old extra count s → AllWithin90 old extra count s → (d' : List ℕ) → run_length old extra count ≤ length d' → to_old_of new extra count e d' ≡ (converted.Bytes (run_length old extra count), laid (run_length old extra count) s d')
+      pub answered_back : No28 old extra count s → AllWithin90 old extra count s → (d' : List ℕ) → run_length old extra count ≤ length d' → to_old_of new extra count e d' ≡ (Ok (run_length old extra count), laid (run_length old extra count) s d')
       answered_back class ranks d' room =
           let a = format_with old extra in
           let b = format_with new extra in
@@ -137,11 +135,11 @@ module _ {old new : ℕ} (pair : Up old new) (extra : ℕ) where
             enough = (rw upgraded.1.stands long, room);
             all-fit = λ k l. (each_again k l).1 (class k l, ranks k l);
           })
-          ∙ ap (λ (t : List ℕ). (converted.Bytes (run_length old extra count), images_of false (plan_of b a) count t ++ drop (run_length old extra count) d')) upgraded.1.stands
-          ∙ ap (λ (t : List ℕ). (converted.Bytes (run_length old extra count), t ++ drop (run_length old extra count) d')) (run_back short count s rest bytes there (λ k l. (class k l, ranks k l)))
+          ∙ ap (λ (t : List ℕ). (Ok (run_length old extra count), images_of false (plan_of b a) count t ++ drop (run_length old extra count) d')) upgraded.1.stands
+          ∙ ap (λ (t : List ℕ). (Ok (run_length old extra count), t ++ drop (run_length old extra count) d')) (run_back short count s rest bytes there (λ k l. (class k l, ranks k l)))
 
       -- which it does only then
-      pub back_only : (d' : List ℕ) {n' : ℕ} {e' : List ℕ} → to_old_of new extra count e d' ≡ (converted.Bytes n', e') → No28 old extra count s × AllWithin90 old extra count s
+      pub back_only : (d' : List ℕ) {n' : ℕ} {e' : List ℕ} → to_old_of new extra count e d' ≡ (Ok n', e') → No28 old extra count s × AllWithin90 old extra count s
       back_only d' w =
           let fits = (converted_then new extra count e d' w).all-fit in
           (λ k l. ((each_again k l).0 (fits k l)).0, λ k l. ((each_again k l).0 (fits k l)).1)

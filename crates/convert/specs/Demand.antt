@@ -1,5 +1,7 @@
 -- The words that demand 3 is stated in: pairs of codes, the records of a run, and why a run is refused.
-use Rattle.std.specs.Prelude.{ℕ, suc, ◌*◌, ◌≤◌, ◌<◌, ◌≡◌, Bool, true, false, List, ◌++◌, length, take, drop}
+use Rattle.std.specs.Prelude.{Result, Ok, Err, ℕ, suc, ◌*◌, ◌≤◌, ◌<◌, ◌≡◌, Bool, true, false, List, ◌++◌, length, take, drop}
+use Rattle.refusal.specs.declared.Refused.{Refused}
+use Rattle.judge.specs.declared.Run.{Run}
 use Rattle.refusal.specs.declared.Refusal.{Refusal}
 use Rattle.refusal.specs.declared.Refusal.TheVariants.{NoPair, RecordLength, Short, NoRoom}
 use Rattle.refusal.specs.Table.{wanted_of}
@@ -9,22 +11,19 @@ use Rattle.format.specs.Fields.{record_bytes}
 use Rattle.flags.specs.Readings.{class_of}
 use Rattle.point.specs.declared.Point.{Point}
 use Rattle.point.specs.Read.{point_of, field_of}
-use Rattle.strict.specs.declared.Fit.TheVariants as fit
 use Rattle.strict.specs.Fit.{fit_of}
 use Rattle.strict.specs.Shown.{Same, Within90, Never, Unshown}
 use Rattle.strict.specs.First.{FirstField}
 use Rattle.pairs.specs.Pairs.{format_with}
-use Rattle.judge.specs.declared.Verdict.{Verdict}
 use Rattle.judge.specs.Judge.{old_verdict, new_verdict}
-use Rattle.convert.specs.declared.Converted.{Converted}
 use Rattle.convert.specs.Run.{to_old_of, to_new_of}
 
 -- the question and the writing call of either way: strictly down, or up
-abbrev pub ask_of : Bool → ℕ → ℕ → ℕ → List ℕ → Verdict
+abbrev pub ask_of : Bool → ℕ → ℕ → ℕ → List ℕ → Result Run Refused
 ask_of false code extra count s = old_verdict code extra count s
 ask_of true code extra count s = new_verdict code extra count s
 
-abbrev pub convert_of : Bool → ℕ → ℕ → ℕ → List ℕ → List ℕ → Converted × List ℕ
+abbrev pub convert_of : Bool → ℕ → ℕ → ℕ → List ℕ → List ℕ → Result ℕ Refused × List ℕ
 convert_of false code extra count s d = to_old_of code extra count s d
 convert_of true code extra count s d = to_new_of code extra count s d
 
@@ -88,7 +87,7 @@ Enough source target extra count s d = (run_length source extra count ≤ length
 
 -- each of the first `count` records fits: document 01's record check, `fit_of` in strict/specs/Fit.antt, refuses none of its fields
 abbrev pub AllFit : ℕ → ℕ → ℕ → List ℕ → Type 0
-AllFit code extra count s = (k : ℕ) → k < count → fit_of (point_at code extra k s) ≡ fit.Fits
+AllFit code extra count s = (k : ℕ) → k < count → fit_of (point_at code extra k s) ≡ Ok tt
 
 -- the record after k others is the first that does not fit, and `why` names the first of its fields that does not (`FirstField`, in
 -- strict/specs/First.antt, has document 01's order): no old record of the pair has what `why` names, and so none shows the same values; of
@@ -134,7 +133,7 @@ module _ (code extra count : ℕ) (s d : List ℕ) where
         → RefusedFor (Short (wanted_of (run_length code extra count))) 0
     of-record :
         {old k : ℕ} {why : Refusal} → Down code old → NotOverlong code old extra → run_length code extra count ≤ length s → k < count
-        → AllFit code extra k s → fit_of (point_at code extra k s) ≡ fit.Refused why
+        → AllFit code extra k s → fit_of (point_at code extra k s) ≡ Err why
         → RefusedFor why (suc k)
     no_room :
         {old : ℕ} → Down code old → NotOverlong code old extra → run_length code extra count ≤ length s → AllFit code extra count s

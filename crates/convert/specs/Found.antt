@@ -1,17 +1,15 @@
 -- What a converted run shows, and what a refused record is.
-use Rattle.std.specs.Prelude.{ℕ, suc, ◌*◌, ◌≤◌, ◌<◌, ◌≡◌, false, List, [], length, drop}
+use Rattle.std.specs.Prelude.{Ok, ℕ, suc, ◌*◌, ◌≤◌, ◌<◌, ◌≡◌, false, List, [], length, drop}
 use Rattle.std.proofs.Common.{ap, sym, subst, ◌∙◌, append-nil, arith, drop_at}
 use Rattle.refusal.specs.declared.Refusal.{Refusal}
 use Rattle.le.specs.Le as le
 use Rattle.le.specs.Laws.{bytes_take, bytes_drop}
 use Rattle.format.specs.declared.Field.TheVariants.{ExtraBytes}
 use Rattle.point.specs.Read.{point_of, field_of}
-use Rattle.strict.specs.declared.Fit.TheVariants as fit
 use Rattle.strict.specs.Fit.{fit_of}
 use Rattle.strict.specs.Shown.{Same, down_image}
 use Rattle.strict.specs.Theorems.{shown_the_same, shown_in_bytes, first-field_named, refused-only_then, no-old_record_shows_it, fits-if-shown}
 use Rattle.strict.specs.Whole.{same-within}
-use Rattle.convert.specs.declared.Converted.TheVariants as converted
 use Rattle.pairs.specs.Pairs.{format_with}
 use Rattle.convert.specs.Run.{images_of, to_old_of}
 use Rattle.pairs.specs.Sound.{Sound}
@@ -22,7 +20,7 @@ use Rattle.convert.specs.Told.{plan_of, told-bytes, plan-of_sound, down_paired, 
 use Rattle.convert.specs.Each.{nth-length, fits_each, Written, written, each-shown}
 
 module _ {new old : ℕ} (pair : Down new old) (extra count : ℕ) (s d : List ℕ) where
-  module _ {n : ℕ} {e : List ℕ} (h : to_old_of new extra count s d ≡ (converted.Bytes n, e)) where
+  module _ {n : ℕ} {e : List ℕ} (h : to_old_of new extra count s d ≡ (Ok n, e)) where
     down_sound : Sound false (plan_of (format_with new extra) (format_with old extra))
     down_sound =
         let run = told-bytes false _ _ count s d (sym (down_told pair extra count s d) ∙ h) in
@@ -54,7 +52,7 @@ module _ {new old : ℕ} (pair : Down new old) (extra count : ℕ) (s d : List �
 
   -- a record fits exactly when an old record shows it
   module _ (bytes : le.Bytes s) (there : run_length new extra count ≤ length s) (k : ℕ) (within : k < count) where
-    pub fits-shown : fit_of (point_at new extra k s) ≡ fit.Fits → OldRecord new old extra k s
+    pub fits-shown : fit_of (point_at new extra k s) ≡ Ok tt → OldRecord new old extra k s
     fits-shown fits =
         let a = format_with new extra in
         let b = format_with old extra in
@@ -66,7 +64,7 @@ module _ {new old : ℕ} (pair : Down new old) (extra count : ℕ) (s d : List �
         let own = shown_in_bytes a b paired r all [] (omega arith) fits in
         record { image = down_image a b r; bytes = own.0; long = own.1; readings = shown.0; extra-bytes = shown.1; within_90 = same-within shown.0 fits }
 
-    pub shown-fits : OldRecord new old extra k s → fit_of (point_at new extra k s) ≡ fit.Fits
+    pub shown-fits : OldRecord new old extra k s → fit_of (point_at new extra k s) ≡ Ok tt
     shown-fits o = fits-if-shown _ _ (down_paired pair extra) _ o.image o.bytes o.within_90 o.readings
 
   -- a refusal with a record's number is that record's

@@ -1,26 +1,22 @@
 -- Laws of the run's records: a point that the writer takes is written, and where a run is judged to fit the writer takes each of its
 -- records.
-use Rattle.std.specs.Prelude.{ℕ, zero, suc, ◌+◌, ◌*◌, ◌≤◌, ◌≡◌, refl, Bool, true, false, length, take, drop}
+use Rattle.std.specs.Prelude.{Result, Ok, Err, ℕ, zero, suc, ◌+◌, ◌*◌, ◌≤◌, ◌≡◌, refl, Bool, true, false, length, take, drop}
+use Rattle.refusal.specs.declared.Refused.{Refused}
+use Rattle.refusal.specs.declared.Refusal.{Refusal}
 use Rattle.std.proofs.Math.Path.{ap, sym}
 use Rattle.std.proofs.Common.{◌∙◌, zero-mul, suc-mul, arith, length-append, length-drop, length-take-le}
 use mathlib.Core.List.{List, ◌++◌}
-use Rattle.lent.specs.declared.Wrote.{Wrote}
 use Rattle.format.specs.declared.Field.TheVariants.{ExtraBytes}
 use Rattle.format.specs.Length.{len_is}
 use Rattle.point.specs.declared.Point.{Point}
-use Rattle.point.specs.declared.PointRead.TheVariants.{Is}
 use Rattle.point.specs.Read.{point_of, field_of, read_of, extra_of}
 use Rattle.point_write.specs.Write.{written_of}
 use Rattle.point_write.specs.Taken.{Taken, record_length_lem, taken-written}
 use Rattle.point.specs.Answer.{answered, extra-length}
-use Rattle.strict.specs.declared.Fit.{Fit}
-use Rattle.strict.specs.declared.Fit.TheVariants as fit
 use Rattle.strict.specs.Fit.{fit_of}
 use Rattle.strict.specs.Whole.{fits-two}
 use Rattle.pairs.specs.declared.Plan.{Plan}
 use Rattle.pairs.specs.Sound.{Sound, same-extra, not-up}
-use Rattle.judge.specs.declared.Judged.{Judged}
-use Rattle.judge.specs.declared.Judged.TheVariants as judged
 use Rattle.judge.specs.Judge.{judged_by, judge_run, records_of}
 use Rattle.convert.specs.Run.{turned_of, image_of, images_of}
 use Rattle.convert.specs.Asked.{Takes, TakesRun}
@@ -37,14 +33,14 @@ module _ (up : Bool) (p : Plan) (sound : Sound up p) (s : List ℕ) (whole : len
   unfolding image_of
   image_length = record_length_lem p.target _ _ taken ∙ sym (len_is p.target p.target_length sound.into)
 
-  pub image_laid : (d : List ℕ) {ys : List ℕ} {r : Wrote} {q : Point} → p.target_length ≤ length d → read_of p.source s ≡ Is q → (r, ys) ≡ written_of p.target (turned_of up q) (extra_of p.source s) d → ys ≡ image_of up p s ++ drop p.target_length d
+  pub image_laid : (d : List ℕ) {ys : List ℕ} {r : Result ℕ Refusal} {q : Point} → p.target_length ≤ length d → read_of p.source s ≡ Ok q → (r, ys) ≡ written_of p.target (turned_of up q) (extra_of p.source s) d → ys ≡ image_of up p s ++ drop p.target_length d
   unfolding image_of
   image_laid d {ys} {r} {q} room is e =
       let a = answered p.source s q is in
-      ap (λ (w : Wrote × List ℕ). w.1) (rw (a.point, a.extra) at e ∙ taken-written p.target _ _ taken p.target_length d room sound.into)
+      ap (λ (w : Result ℕ Refusal × List ℕ). w.1) (rw (a.point, a.extra) at e ∙ taken-written p.target _ _ taken p.target_length d room sound.into)
 
 -- where the records fit, the writer takes each of them
-pub takes_old : (p : Plan) (number k : ℕ) (s : List ℕ) → judge_run p.source p.source_length number k s ≡ judged.Fits → TakesRun false p k s
+pub takes_old : (p : Plan) (number k : ℕ) (s : List ℕ) → judge_run p.source p.source_length number k s ≡ Ok tt → TakesRun false p k s
 unfolding judge_run TakesRun
 takes_old p number zero s e = tt
 takes_old p number (suc k) s e = go (fit_of (point_of p.source (take p.source_length s))) refl e (takes_old p (number + 1) k (drop p.source_length s))
@@ -52,12 +48,12 @@ takes_old p number (suc k) s e = go (fit_of (point_of p.source (take p.source_le
     point : Point
     point = point_of p.source (take p.source_length s)
 
-    later : Judged
+    later : Result Unit Refused
     later = judge_run p.source p.source_length (number + 1) k (drop p.source_length s)
 
-    go : (x : Fit) → fit_of point ≡ x → judged_by x number later ≡ judged.Fits → (later ≡ judged.Fits → TakesRun false p k (drop p.source_length s)) → Takes p.target point × TakesRun false p k (drop p.source_length s)
-    go fit.Fits f l rest = (λ _. f, rest l)
-    go (fit.Refused r) f l rest = let z : ◌≡◌ {A = ℕ} 0 1 = cc in absurd (omega arith)
+    go : (x : Result Unit Refusal) → fit_of point ≡ x → judged_by x number later ≡ Ok tt → (later ≡ Ok tt → TakesRun false p k (drop p.source_length s)) → Takes p.target point × TakesRun false p k (drop p.source_length s)
+    go (Ok _) f l rest = (λ _. f, rest l)
+    go (Err r) f l rest = let z : ◌≡◌ {A = ℕ} 0 1 = cc in absurd (omega arith)
 
 -- an extended format takes every point
 pub takes_new : (p : Plan) → p.target.is_extended ≡ true → (k : ℕ) (s : List ℕ) → TakesRun true p k s
@@ -65,7 +61,7 @@ unfolding TakesRun
 takes_new p t zero s = tt
 takes_new p t (suc k) s = (λ f. not-up (sym f ∙ t), takes_new p t k (drop p.source_length s))
 
-pub takes_all : (up : Bool) (p : Plan) → Sound up p → (count : ℕ) (s : List ℕ) → records_of up p count s ≡ judged.Fits → TakesRun up p count s
+pub takes_all : (up : Bool) (p : Plan) → Sound up p → (count : ℕ) (s : List ℕ) → records_of up p count s ≡ Ok tt → TakesRun up p count s
 takes_all true p sound count s e = takes_new p sound.mates.is_new count s
 takes_all false p sound count s e = takes_old p 1 count s e
 

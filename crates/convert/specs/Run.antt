@@ -1,17 +1,16 @@
 -- Document 01, "Strict conversion": what a run of records becomes, where it goes (`old_verdict` and `new_verdict` in judge/specs/Judge.antt) and
 -- has room. Each record is what its reader says of its bytes, and becomes what the writer makes of that.
-use Rattle.std.specs.Prelude.{ℕ, zero, suc, Bool, true, false, cond, List, [], ◌++◌, ltb, length, take, drop}
+use Rattle.std.specs.Prelude.{Result, Ok, Err, ℕ, zero, suc, Bool, true, false, cond, List, [], ◌++◌, ltb, length, take, drop}
+use Rattle.refusal.specs.Refused.{at_record}
+use Rattle.refusal.specs.declared.Refused.{Refused}
+use Rattle.judge.specs.declared.Run.{Run}
 use Rattle.refusal.specs.declared.Refusal.TheVariants.{NoRoom}
 use Rattle.format.specs.declared.Field.TheVariants.{ExtraBytes}
 use Rattle.point.specs.declared.Point.{Point}
 use Rattle.point.specs.Read.{point_of, field_of}
 use Rattle.point_write.specs.Write.{record_of}
 use Rattle.strict.specs.Upgrade.{upgraded_of}
-use Rattle.convert.specs.declared.Converted.{Converted}
-use Rattle.convert.specs.declared.Converted.TheVariants as converted
 use Rattle.pairs.specs.declared.Plan.{Plan}
-use Rattle.judge.specs.declared.Verdict.{Verdict}
-use Rattle.judge.specs.declared.Verdict.TheVariants.{Goes, Refused}
 use Rattle.judge.specs.Judge.{old_verdict, new_verdict}
 
 -- a point on its way down is as it is, on its way up it is upgraded
@@ -30,13 +29,13 @@ images_of up p (suc k) s = image_of up p (take p.source_length s) ++ images_of u
 
 -- "If all fit, each record goes into the rest of the destination and bytes past the run stay". Document 02, No. 10: "22 now comes after the
 -- record checks and only from the writing call", with the bytes needed; a refusal leaves the destination as it was
-abbrev pub done_of : Bool → ℕ → List ℕ → List ℕ → Verdict → Converted × List ℕ
-done_of up count s d (Goes p n) = cond (ltb (length d) n) (converted.Refused (NoRoom n) 0, d) (converted.Bytes n, images_of up p count s ++ drop n d)
-done_of up count s d (Refused r number) = (converted.Refused r number, d)
+abbrev pub done_of : Bool → ℕ → List ℕ → List ℕ → Result Run Refused → Result ℕ Refused × List ℕ
+done_of up count s d (Ok run) = cond (ltb (length d) run.bytes) (Err (at_record (NoRoom run.bytes) 0), d) (Ok run.bytes, images_of up run.plan count s ++ drop run.bytes d)
+done_of up count s d (Err err) = (Err err, d)
 
 -- the strict conversion, and the upgrade: "a writing call that asks it itself"
-unfoldable pub to_old_of : ℕ → ℕ → ℕ → List ℕ → List ℕ → Converted × List ℕ
+unfoldable pub to_old_of : ℕ → ℕ → ℕ → List ℕ → List ℕ → Result ℕ Refused × List ℕ
 to_old_of format extra count s d = done_of false count s d (old_verdict format extra count s)
 
-unfoldable pub to_new_of : ℕ → ℕ → ℕ → List ℕ → List ℕ → Converted × List ℕ
+unfoldable pub to_new_of : ℕ → ℕ → ℕ → List ℕ → List ℕ → Result ℕ Refused × List ℕ
 to_new_of format extra count s d = done_of true count s d (new_verdict format extra count s)

@@ -1,18 +1,17 @@
 -- A run of a pair, by the formats of its codes: where neither record is overlong it goes by their plan.
-use Rattle.std.specs.Prelude.{ℕ, ◌≤◌, ◌<◌, ◌≡◌, refl, Bool, true, false, List, ◌⊎◌, eqb}
+use Rattle.std.specs.Prelude.{Result, Ok, Err, ℕ, ◌≤◌, ◌<◌, ◌≡◌, refl, Bool, true, false, List, ◌⊎◌, eqb}
+use Rattle.refusal.specs.Refused.{at_record}
+use Rattle.refusal.specs.declared.Refused.{Refused}
 use Rattle.std.proofs.Common.{ap, sym, subst, inl, inr, arith}
 use borrow.Author.Tests.{eqb-true, eqb-false, ne_eqb}
 use Rattle.refusal.specs.declared.Refusal.{Refusal}
 use Rattle.refusal.specs.declared.Refusal.TheVariants.{NoPair, RecordLength}
 use Rattle.format.specs.declared.Format.{Format}
-use Rattle.format.specs.declared.FormatLen.{FormatLen}
 use Rattle.format.specs.Fields.{record_bytes, len_of}
 use Rattle.format.specs.Length as format
 use Rattle.format.specs.Length.{len-told}
 use Rattle.pairs.specs.Paired.{Paired, Mates, six_one, seven_three, eight_three, nine_four, ten_five}
 use Rattle.pairs.specs.declared.Plan.{Plan}
-use Rattle.convert.specs.declared.Converted.{Converted}
-use Rattle.convert.specs.declared.Converted.TheVariants as converted
 use Rattle.pairs.specs.Pairs.{format_with, old_pair, new_pair, lengths_of}
 use Rattle.judge.specs.Judge.{judged_of, verdict_on, verdict_by, old_verdict, new_verdict}
 use Rattle.convert.specs.Run.{done_of, to_old_of, to_new_of}
@@ -24,33 +23,33 @@ abbrev pub plan_of : Format → Format → Plan
 plan_of a b = record { source = a; target = b; source_length = record_bytes a; target_length = record_bytes b }
 
 -- what becomes of a run by a plan
-unfoldable pub converted_of : Bool → Plan → ℕ → List ℕ → List ℕ → Converted × List ℕ
+unfoldable pub converted_of : Bool → Plan → ℕ → List ℕ → List ℕ → Result ℕ Refused × List ℕ
 converted_of up p count s d = done_of up count s d (verdict_on p count (judged_of up p count s))
 
 -- what a run is told by the lengths of two formats
-abbrev pub told : Bool → Format → Format → ℕ → List ℕ → List ℕ → Converted × List ℕ
+abbrev pub told : Bool → Format → Format → ℕ → List ℕ → List ℕ → Result ℕ Refused × List ℕ
 told up a b count s d = done_of up count s d (verdict_by up count s (lengths_of a b (len_of a) (len_of b)))
 
 -- a refusal is no count of bytes
-pub not-bytes : {A : Type 0} (r : Refusal) (j n : ℕ) (d e : List ℕ) → ◌≡◌ {A = Converted × List ℕ} (converted.Refused r j, d) (converted.Bytes n, e) → A
+pub not-bytes : {A : Type 0} (r : Refusal) (j n : ℕ) (d e : List ℕ) → ◌≡◌ {A = Result ℕ Refused × List ℕ} (Err (at_record r j), d) (Ok n, e) → A
 not-bytes r j n d e h =
-    let q = ap (λ (w : Converted × List ℕ). w.0) h in
+    let q = ap (λ (w : Result ℕ Refused × List ℕ). w.0) h in
     let z : ◌≡◌ {A = ℕ} 0 1 = cc in
     absurd (omega arith)
 
 module _ (up : Bool) (a b : Format) where
   module _ (count : ℕ) (s d : List ℕ) where
     -- "source, then target record over 65,535 bytes 8", and then by the plan
-    pub data Tells : Converted × List ℕ → Type 0 where
-      source_over : 65535 < record_bytes a → Tells (converted.Refused (RecordLength (record_bytes a)) 0, d)
-      target_over : record_bytes a ≤ 65535 → 65535 < record_bytes b → Tells (converted.Refused (RecordLength (record_bytes b)) 0, d)
+    pub data Tells : Result ℕ Refused × List ℕ → Type 0 where
+      source_over : 65535 < record_bytes a → Tells (Err (at_record (RecordLength (record_bytes a)) 0), d)
+      target_over : record_bytes a ≤ 65535 → 65535 < record_bytes b → Tells (Err (at_record (RecordLength (record_bytes b)) 0), d)
       runs : record_bytes a ≤ 65535 → record_bytes b ≤ 65535 → Tells (converted_of up (plan_of a b) count s d)
 
     pub tells : Tells (told up a b count s d)
     unfolding converted_of
     tells = go (format.told a) (format.told b)
       where
-        go : {x y : FormatLen} → format.Told a x → format.Told b y → Tells (done_of up count s d (verdict_by up count s (lengths_of a b x y)))
+        go : {x y : Result ℕ Refusal} → format.Told a x → format.Told b y → Tells (done_of up count s d (verdict_by up count s (lengths_of a b x y)))
         go (format.over h) y = source_over h
         go (format.fits h) (format.over l) = target_over h l
         go (format.fits h) (format.fits l) = runs h l
@@ -59,10 +58,10 @@ module _ (up : Bool) (a b : Format) where
     unfolding converted_of
     told-run h l = rw (len-told a h, len-told b l)
 
-    pub told-bytes : {n : ℕ} {e : List ℕ} → told up a b count s d ≡ (converted.Bytes n, e) → (record_bytes a ≤ 65535) × (record_bytes b ≤ 65535) × (converted_of up (plan_of a b) count s d ≡ (converted.Bytes n, e))
+    pub told-bytes : {n : ℕ} {e : List ℕ} → told up a b count s d ≡ (Ok n, e) → (record_bytes a ≤ 65535) × (record_bytes b ≤ 65535) × (converted_of up (plan_of a b) count s d ≡ (Ok n, e))
     told-bytes {n} {e} = go tells
       where
-        go : {w : Converted × List ℕ} → Tells w → w ≡ (converted.Bytes n, e) → (record_bytes a ≤ 65535) × (record_bytes b ≤ 65535) × (converted_of up (plan_of a b) count s d ≡ (converted.Bytes n, e))
+        go : {w : Result ℕ Refused × List ℕ} → Tells w → w ≡ (Ok n, e) → (record_bytes a ≤ 65535) × (record_bytes b ≤ 65535) × (converted_of up (plan_of a b) count s d ≡ (Ok n, e))
         go (source_over l) h = not-bytes _ 0 n d e h
         go (target_over m l) h = not-bytes _ 0 n d e h
         go (runs m l) h = (m, l, h)
@@ -124,7 +123,7 @@ module _ (code : ℕ) where
       go false false false false false six seven eight nine ten =
           inr (λ old pair. none pair (eqb-false code 6 six) (eqb-false code 7 seven) (eqb-false code 8 eight) (eqb-false code 9 nine) (eqb-false code 10 ten))
 
-  pub none_told : ((old : ℕ) → Down code old → ⊥) → (extra count : ℕ) (s d : List ℕ) → to_old_of code extra count s d ≡ (converted.Refused (NoPair code) 0, d)
+  pub none_told : ((old : ℕ) → Down code old → ⊥) → (extra count : ℕ) (s d : List ℕ) → to_old_of code extra count s d ≡ (Err (at_record (NoPair code) 0), d)
   unfolding to_old_of old_verdict old_pair
   none_told none extra count s d =
       rw (ne_eqb code 6 (other 6 1 from_6), ne_eqb code 7 (other 7 3 from_7), ne_eqb code 8 (other 8 3 from_8), ne_eqb code 9 (other 9 4 from_9), ne_eqb code 10 (other 10 5 from_10))

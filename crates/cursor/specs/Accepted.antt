@@ -1,10 +1,10 @@
 -- What acceptance says of the parts: each record is all there, and the parts follow one another.
+use Rattle.std.specs.Prelude.{Ok}
 use Rattle.std.specs.Prelude.{ℕ, ◌-◌, ◌≤◌, ◌≡◌, Bool, true, false, cond, List, eqb, length, drop}
 use Rattle.std.proofs.Math.Path.{refl}
 use Rattle.std.proofs.Common.{sym, subst, pos_of_ne-zero, arith, eqb-true, length-drop, take_all}
 use Rattle.std.proofs.lemmas.Bool.{eqb-false}
 use Rattle.outline.specs.declared.Outline.{Outline}
-use Rattle.rules.specs.declared.Checked.TheVariants as checked
 use Rattle.rules.specs.Records.{Run}
 use Rattle.extents.specs.Extents.{points_end}
 use Rattle.file.specs.Rules.{checked_of}
@@ -34,5 +34,5 @@ module _ {n minor allowance : ℕ} (o : Outline) (s : List ℕ) (h : PartsHold n
       record { after_header = h.offset_after_header; vlrs = h.vlrs_whole; after-points = later.0; within = later.1; later = later.2 }
 
 -- and those of an accepted file
-pub laid : (allowance : ℕ) (s : List ℕ) {n : ℕ} → checked_of allowance s ≡ checked.Accepted n → Laid (outline_in s) s
+pub laid : (allowance : ℕ) (s : List ℕ) {n : ℕ} → checked_of allowance s ≡ Ok n → Laid (outline_in s) s
 laid allowance s p = laid_out (outline_in s) s (accepted-holds allowance s p).parts

@@ -1,11 +1,11 @@
 -- How many parts a cursor may have to tell.
+use Rattle.std.specs.Prelude.{None, Option, Some, Result, Ok, Err}
+use Rattle.refusal.specs.declared.Refusal.{Refusal}
 use Prim.Native.Nat.{ℕ, zero, suc, ◌+◌, ◌-◌, ◌≤◌}
 use Rattle.std.specs.Prelude.{◌≡◌, Bool, cond, List, [], ◌∷◌, ltb}
-use Rattle.std.proofs.Common.{ap, sym, ◌∙◌, add-one, arith}
+use Rattle.std.proofs.Common.{refl, ap, sym, ◌∙◌, add-one, arith}
 use Rattle.std.proofs.Math.Bool.{true, false}
 use Rattle.std.proofs.Math.ListN.{length, length-append}
-use Rattle.vlr.specs.declared.Extent.{Extent}
-use Rattle.vlr.specs.declared.Extent.TheVariants as extent
 use Rattle.vlr.specs.Vlr.{extent_of}
 use Rattle.cursor.specs.declared.Kind.{Kind}
 use Rattle.cursor.specs.declared.Kind.TheVariants as kind
@@ -27,9 +27,9 @@ gap_few from to = go (ltb from to)
     go true = omega arith
     go false = omega arith
 
-told_few : (x : Extent) (f : ℕ → List Part) (most : ℕ) → ((m : ℕ) → length (f m) ≤ most) → length (when_bytes x f []) ≤ most
-told_few (extent.Bytes m) f most h = h m
-told_few (extent.Refused r) f most h = omega arith
+told_few : (x : Result ℕ Refusal) (f : ℕ → List Part) (most : ℕ) → ((m : ℕ) → length (f m) ≤ most) → length (when_bytes x f []) ≤ most
+told_few (Ok m) f most h = h m
+told_few (Err r) f most h = omega arith
 
 module _ (s : List ℕ) where
   records_few : (k : Kind) (extended : Bool) (n at to : ℕ) (after : List Part) → length (records_from s k extended n at to after) ≤ n + 1 + length after
@@ -69,14 +69,15 @@ module _ (s : List ℕ) where
   pub few_left : (c : Cursor) → length (left_of s c) ≤ c.left + c.plan.number_of_vlrs + c.plan.number_of_later_records + 5
   few_left c = few_at c.stage c.at c.left c.plan
 
--- a step that has a part tells one more than the cursor after it, one that has none tells none
+-- a step that has a part tells one more than the cursor after it
 module _ (s : List ℕ) where
-  pub told-one : (r : Step) → r.has ≡ true → length (told_by (left_of s) r) ≡ length (left_of s r.next) + 1
-  told-one r e = ap (λ (b : Bool). length (cond b (r.part ∷ left_of s r.next) [])) e ∙ sym (add-one (length (left_of s r.next)))
+  pub told-one : (r : Step) → length (told_by (left_of s) (Some r)) ≡ length (left_of s r.next) + 1
+  told-one r = sym (add-one (length (left_of s r.next)))
 
-  pub told_none : (r : Step) → r.has ≡ false → length (told_by (left_of s) r) ≡ 0
-  told_none r e = ap (λ (b : Bool). length (cond b (r.part ∷ left_of s r.next) [])) e
+  -- one that has none tells none
+  pub told_none : length (told_by (left_of s) None) ≡ 0
+  told_none = refl
 
   -- and the step at a cursor tells what is left there
-  pub told-all : (c : Cursor) (r : Step) → r ≡ step_of s c → length (told_by (left_of s) r) ≡ length (left_of s c)
-  told-all c r e = ap (λ (x : Step). length (told_by (left_of s) x)) e ∙ ap length (sym (left_step s c))
+  pub told-all : (c : Cursor) (r : Option Step) → r ≡ step_of s c → length (told_by (left_of s) r) ≡ length (left_of s c)
+  told-all c r e = ap (λ (x : Option Step). length (told_by (left_of s) x)) e ∙ ap length (sym (left_step s c))

@@ -1,4 +1,6 @@
 -- Laws of the cursor: a step tells the first of the parts that are left, and a record that is told ends where it must.
+use Rattle.std.specs.Prelude.{Option, Some, None, Result, Ok, Err}
+use Rattle.refusal.specs.declared.Refusal.{Refusal}
 use Prim.Native.Nat.{ℕ, zero, suc, ◌+◌, ◌-◌, ◌≤◌, ◌<◌}
 use Rattle.std.specs.Prelude.{◌≡◌, Bool, ltb, length, drop}
 use Rattle.std.proofs.Math.Path.{refl, ap, sym}
@@ -6,8 +8,6 @@ use Rattle.std.proofs.Common.{◌∙◌, arith, lt-ltb, le-ltb, length-take, dro
 use Rattle.std.proofs.Math.Bool.{true, false, cond}
 use mathlib.Core.List.{List, [], ◌∷◌, ◌++◌}
 use Rattle.std.proofs.Math.Nat.{min-le_left}
-use Rattle.vlr.specs.declared.Extent.{Extent}
-use Rattle.vlr.specs.declared.Extent.TheVariants as extent
 use Rattle.vlr.specs.Layout.{head_size}
 use Rattle.vlr.specs.Vlr.{extent_of}
 use Rattle.vlr.specs.Laws.{accepted}
@@ -21,7 +21,7 @@ use Rattle.cursor.specs.declared.Stage.TheVariants as stage
 use Rattle.cursor.specs.declared.Cursor.{Cursor}
 use Rattle.cursor.specs.declared.Step.{Step}
 use Rattle.cursor.specs.Parts.{part, gap, between, later_kind}
-use Rattle.cursor.specs.Cursor.{cursor, told, ended, past_gap, when_bytes, record_step, points_step, vlrs_step, later_step, at_later, between_step, step_of, records_from, later_from, end_from, points_from, vlrs_from, left_of, told_by}
+use Rattle.cursor.specs.Cursor.{cursor, told, past_gap, when_bytes, record_step, points_step, vlrs_step, later_step, at_later, between_step, step_of, records_from, later_from, end_from, points_from, vlrs_from, left_of, told_by}
 
 pub between-short : (from to : ℕ) (s : List ℕ) → length (between from to s) ≤ to - from
 between-short from to s = rw length-take (min-le_left (to - from) (length (drop from s)))
@@ -31,7 +31,7 @@ some-head true = omega arith
 some-head false = omega arith
 
 -- a record that is all there ends at or before the place that its bytes end at
-pub ends_within : (extended : Bool) (s : List ℕ) (at to : ℕ) {n : ℕ} → extent_of extended (between at to s) ≡ extent.Bytes n → at + n ≤ to
+pub ends_within : (extended : Bool) (s : List ℕ) (at to : ℕ) {n : ℕ} → extent_of extended (between at to s) ≡ Ok n → at + n ≤ to
 ends_within extended s at to p =
     let w = accepted extended (between at to s) p in
     omega (arith, some-head extended, between-short at to s)
@@ -43,7 +43,7 @@ drop-between n from to s =
     rw (drop-take, drop-drop, e)
 
 -- a gap that is there is told, and one that is not is passed
-module _ (at to : ℕ) (next : Cursor) (otherwise : Step) where
+module _ (at to : ℕ) (next : Cursor) (otherwise : Option Step) where
   pub gap-told : at < to → past_gap at to next otherwise ≡ told kind.Gap at (to - at) next
   unfolding past_gap
   gap-told h = rw (lt-ltb at to h)
@@ -54,7 +54,7 @@ module _ (at to : ℕ) (next : Cursor) (otherwise : Step) where
 
 module _ (s : List ℕ) where
   -- a gap, or what follows it
-  past : (at to : ℕ) (next : Cursor) (otherwise : Step) (after : List Part) → left_of s next ≡ after → told_by (left_of s) otherwise ≡ after → gap at to ++ after ≡ told_by (left_of s) (past_gap at to next otherwise)
+  past : (at to : ℕ) (next : Cursor) (otherwise : Option Step) (after : List Part) → left_of s next ≡ after → told_by (left_of s) otherwise ≡ after → gap at to ++ after ≡ told_by (left_of s) (past_gap at to next otherwise)
   unfolding gap past_gap
   past at to next otherwise after e f = go (ltb at to)
     where
@@ -63,10 +63,10 @@ module _ (s : List ℕ) where
       go false = sym f
 
   -- a record, where it is all there
-  whole : (x : Extent) (k : Kind) (at : ℕ) (c : Cursor) (after : ℕ → List Part) (next : ℕ → Cursor) → ((n : ℕ) → left_of s (next n) ≡ after n)
-      → when_bytes x (λ n. part k at n ∷ after n) [] ≡ told_by (left_of s) (when_bytes x (λ n. told k at n (next n)) (ended c))
-  whole (extent.Bytes n) k at c after next e = ap (λ (ps : List Part). part k at n ∷ ps) (sym (e n))
-  whole (extent.Refused r) k at c after next e = refl
+  whole : (x : Result ℕ Refusal) (k : Kind) (at : ℕ) (c : Cursor) (after : ℕ → List Part) (next : ℕ → Cursor) → ((n : ℕ) → left_of s (next n) ≡ after n)
+      → when_bytes x (λ n. part k at n ∷ after n) [] ≡ told_by (left_of s) (when_bytes x (λ n. told k at n (next n)) None)
+  whole (Ok n) k at c after next e = ap (λ (ps : List Part). part k at n ∷ ps) (sym (e n))
+  whole (Err r) k at c after next e = refl
 
   one_less : (k : ℕ) → suc k - 1 ≡ k
   one_less k = omega arith
@@ -77,7 +77,7 @@ module _ (s : List ℕ) where
 
   at_later_lem : (left at : ℕ) (p : Plan) → later_from s p left at ≡ told_by (left_of s) (later_step s (cursor stage.Later at left p))
   unfolding left_of later_step later_from records_from record_step
-  at_later_lem zero at p = past at (length s) (cursor stage.Later (length s) 0 p) (ended (cursor stage.Later at 0 p)) [] (rw no_gap) refl
+  at_later_lem zero at p = past at (length s) (cursor stage.Later (length s) 0 p) None [] (rw no_gap) refl
   at_later_lem (suc k) at p =
       rw (lt-ltb 0 (suc k) (omega arith))
       (whole (extent_of true (between at (length s) s)) (later_kind p.waveform) at (cursor stage.Later at (suc k) p) (λ n. records_from s (later_kind p.waveform) true k (at + n) (length s) [])
@@ -113,16 +113,16 @@ module _ (s : List ℕ) where
 
 module _ (s : List ℕ) (c : Cursor) where
   -- a step that has a part tells the first of those left
-  pub has_part : (step_of s c).has ≡ true → left_of s c ≡ (step_of s c).part ∷ left_of s (step_of s c).next
-  has_part e = left_step s c ∙ ap (λ (b : Bool). cond b ((step_of s c).part ∷ left_of s (step_of s c).next) []) e
+  pub has_part : {r : Step} → step_of s c ≡ Some r → left_of s c ≡ r.part ∷ left_of s r.next
+  has_part e = left_step s c ∙ ap (told_by (left_of s)) e
 
-  pub has-none : (step_of s c).has ≡ false → left_of s c ≡ []
-  has-none e = left_step s c ∙ ap (λ (b : Bool). cond b ((step_of s c).part ∷ left_of s (step_of s c).next) []) e
+  pub has-none : step_of s c ≡ None → left_of s c ≡ []
+  has-none e = left_step s c ∙ ap (told_by (left_of s)) e
 
-  -- so does a step where some are left
-  pub some_left : 0 < length (left_of s c) → left_of s c ≡ (step_of s c).part ∷ left_of s (step_of s c).next
-  some_left more = go (step_of s c).has refl
+  -- and where some are left it has one
+  pub some_left : 0 < length (left_of s c) → (r : Step) × (step_of s c ≡ Some r) × (left_of s c ≡ r.part ∷ left_of s r.next)
+  some_left more = go (step_of s c) refl
     where
-      go : (b : Bool) → (step_of s c).has ≡ b → left_of s c ≡ (step_of s c).part ∷ left_of s (step_of s c).next
-      go true e = has_part e
-      go false e = let none : length (left_of s c) ≡ 0 = ap length (has-none e) in absurd (omega arith)
+      go : (x : Option Step) → step_of s c ≡ x → (r : Step) × (step_of s c ≡ Some r) × (left_of s c ≡ r.part ∷ left_of s r.next)
+      go None e = let none : length (left_of s c) ≡ 0 = ap length (has-none e) in absurd (omega arith)
+      go (Some r) e = (r, e, has_part e)

@@ -4,7 +4,6 @@ pub mod Cursor
 -- laws
 pub mod Laws
 pub mod Count
-pub mod Stays
 pub mod Accepted
 pub mod Covers
 pub mod Each

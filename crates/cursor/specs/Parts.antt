@@ -1,7 +1,7 @@
 -- The parts of an accepted file, in file order: document 01, "The part table", with document 02's No. 11.
 use Rattle.std.specs.Prelude.{ℕ, zero, suc, ◌+◌, ◌-◌, ◌≤◌, ◌≡◌, Bool, true, false, cond, List, [], ◌∷◌, ◌++◌, eqb, ltb, length, take, drop}
 use Rattle.vlr.specs.Vlr.{record_size}
-use Rattle.header.specs.Judged.{read_of}
+use Rattle.header.specs.Judged.{header_in}
 use Rattle.outline.specs.declared.Outline.{Outline}
 use Rattle.outline.specs.Outline.{outline_of}
 use Rattle.extents.specs.Extents.{points_end}
@@ -31,7 +31,7 @@ record_parts kind extended (suc k) at to s =
 
 -- what the header of the file s says of its parts
 abbrev pub outline_in : List ℕ → Outline
-outline_in s = outline_of (read_of s).header
+outline_in s = outline_of (header_in s)
 
 -- what they are: document 02, No. 11, "a part of its own kind, `waveform`"
 unfoldable pub later_kind : Bool → Kind

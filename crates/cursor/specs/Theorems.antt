@@ -1,4 +1,5 @@
 -- What is promised of the parts of an accepted file.
+use Rattle.std.specs.Prelude.{Option, Some, None, Ok}
 use Rattle.std.specs.Prelude.{ℕ, zero, suc, ◌+◌, ◌-◌, ◌≤◌, ◌≡◌, refl, Bool, false, cond, eqb, length, take, drop}
 use Rattle.std.proofs.Common.{sym, ◌∙◌, arith}
 use Rattle.std.proofs.Math.Path.{ap}
@@ -10,10 +11,9 @@ use Rattle.std.proofs.Math.Seq.{take-length}
 use Rattle.vlr.specs.Vlr.{record_size}
 use Rattle.header.specs.Layout.{VersionMinor, StartOfWaveformDataPacketRecord}
 use Rattle.header.specs.Header.{number}
-use Rattle.header.specs.Judged.{read_of}
+use Rattle.header.specs.Judged.{header_in}
 use Rattle.outline.specs.declared.Outline.{Outline}
 use Rattle.outline.specs.Outline.{evlr_start, evlr_count}
-use Rattle.rules.specs.declared.Checked.TheVariants as checked
 use Rattle.rules.specs.Records.{Run}
 use Rattle.extents.specs.Extents.{points_end}
 use Rattle.file.specs.Rules.{checked_of}
@@ -23,11 +23,10 @@ use Rattle.file.specs.Theorems.{accepted-holds}
 use Rattle.cursor.specs.declared.Kind.TheVariants.{Header, Vlr, Gap, Points, Evlr, Waveform}
 use Rattle.cursor.specs.declared.Part.{Part}
 use Rattle.cursor.specs.declared.Cursor.{Cursor}
-use Rattle.cursor.specs.declared.Started.TheVariants as started
+use Rattle.cursor.specs.declared.Step.{Step}
 use Rattle.cursor.specs.Parts.{part, gap, between, record_parts, outline_in, later_kind, later_start, body_of, parts_of, Covers, joined}
-use Rattle.cursor.specs.Cursor.{plan_of, first_of, started_of, step_of, left_of, told_by}
+use Rattle.cursor.specs.Cursor.{plan_of, first_of, started_of, step_of, left_of, told_by, cursor_after, after}
 use Rattle.cursor.specs.Laws.{left_step}
-use Rattle.cursor.specs.Stays.{stays}
 use Rattle.cursor.specs.Accepted.{to_end, laid}
 use Rattle.cursor.specs.Covers.{covered, first_tells, joined_is}
 
@@ -38,11 +37,11 @@ steps (suc k) s c = told_by (steps k s) (step_of s c)
 
 tells : (k : ℕ) (s : List ℕ) (c : Cursor) → steps k s c ≡ take k (left_of s c)
 tells zero s c = refl
-tells (suc k) s c = go (step_of s c).has refl (tells k s (step_of s c).next) ∙ ap (take (suc k)) (sym (left_step s c))
+tells (suc k) s c = go (step_of s c) (λ r. tells k s r.next) ∙ ap (take (suc k)) (sym (left_step s c))
   where
-    go : (b : Bool) → (step_of s c).has ≡ b → steps k s (step_of s c).next ≡ take k (left_of s (step_of s c).next) → told_by (steps k s) (step_of s c) ≡ take (suc k) (told_by (left_of s) (step_of s c))
-    go true e h = rw e (ap (λ (ps : List Part). (step_of s c).part ∷ ps) h)
-    go false e h = rw e
+    go : (x : Option Step) → ((r : Step) → steps k s r.next ≡ take k (left_of s r.next)) → told_by (steps k s) x ≡ take (suc k) (told_by (left_of s) x)
+    go None h = refl
+    go (Some r) h = ap (λ (ps : List Part). r.part ∷ ps) (h r)
 
 -- the parts up to the points, these included
 abbrev pub up_to_points : Outline → List ℕ → List Part
@@ -64,7 +63,7 @@ split o x s same =
     ap (λ (ps : List Part). part Header 0 o.header_size ∷ ps) (sym (append_assoc vlrs (part Points points (points_end o - points) ∷ []) (after_points (points_end o) o s)))
     ∙ ap (λ (y : Outline). up_to_points o s ++ after_points (points_end o) y s) same
 
-module _ (allowance : ℕ) (s : List ℕ) {n : ℕ} (accepted : checked_of allowance s ≡ checked.Accepted n) where
+module _ (allowance : ℕ) (s : List ℕ) {n : ℕ} (accepted : checked_of allowance s ≡ Ok n) where
   abbrev parts : List Part
   parts = parts_of (outline_in s) s
 
@@ -77,7 +76,7 @@ module _ (allowance : ℕ) (s : List ℕ) {n : ℕ} (accepted : checked_of allow
   whole = joined_is s 0 (length s) parts cover ∙ rw (sub-zero, take-length)
 
   -- a cursor starts, and each step from there tells the next of the parts in file order
-  pub starts : started_of allowance s ≡ started.At (first_of (plan_of (outline_in s)))
+  pub starts : started_of allowance s ≡ Ok (first_of (plan_of (outline_in s)))
   unfolding started_of
   starts = rw accepted
 
@@ -112,7 +111,7 @@ module _ (allowance : ℕ) (s : List ℕ) {n : ℕ} (accepted : checked_of allow
 abbrev pub AsIn01 : List ℕ → Type 0
 AsIn01 s =
     let o = outline_in s in
-    let pair = (read_of s).header.evlr in
+    let pair = (header_in s).evlr in
     let start = cond (eqb (evlr_count pair) 0) (points_end o) (evlr_start pair) in
     parts_of o s ≡ up_to_points o s ++ (gap (points_end o) start ++ record_parts Evlr true (evlr_count pair) start (length s) s)
 
@@ -126,8 +125,12 @@ pub other_versions : (s : List ℕ) → (number VersionMinor s ≡ 3 → ⊥) �
 other_versions s other = other_files s (λ w. other w.version)
 
 -- after the last part there is none, for ever
-pub none_for_ever : (s : List ℕ) (c : Cursor) → (step_of s c).has ≡ false → step_of s (step_of s c).next ≡ step_of s c
-none_for_ever = stays
+pub none_for_ever : (s : List ℕ) (c : Cursor) → step_of s c ≡ None → (k : ℕ) → (after k s c ≡ c) × (step_of s (after k s c) ≡ None)
+none_for_ever s c e zero = (refl, e)
+none_for_ever s c e (suc k) =
+    let before = none_for_ever s c e k in
+    let stays : after (suc k) s c ≡ c = ap (cursor_after (after k s c)) before.1 ∙ before.0 in
+    (stays, ap (step_of s) stays ∙ e)
 
 -- document 01's example: "version 1.2, header size 227, one VLR with 4 data bytes, point offset 287, format 0, two points, 327 bytes"
 pub worked : (s : List ℕ) → length s ≡ 327 → record_size false (between 227 287 s) ≡ 58

@@ -5,13 +5,10 @@
 ghost use Rattle.std.specs.Prelude.{◌≡◌, ◌<◌, ◌-◌};
 ghost use Rattle.extents.specs.Extents.{points_end};
 ghost use Rattle.cursor.specs.Parts.{between, later_kind, later_start};
-ghost use Rattle.cursor.specs.Cursor.{plan_of, first_of, started_of, told, ended, record_step, header_step, points_step, vlrs_step, later_step, between_step, step_of};
+ghost use Rattle.cursor.specs.Cursor.{plan_of, first_of, started_of, told, record_step, header_step, points_step, vlrs_step, later_step, between_step, step_of};
 
-use header::Header;
 use outline::Outline;
-use refusal::Refusal;
-use rules::Checked;
-use vlr::Extent;
+use refusal::Refused;
 
 #[derive(Clone, Copy)]
 pub enum Kind {
@@ -63,37 +60,19 @@ pub struct Cursor {
     pub plan: Plan,
 }
 
-// The cursor at the first part, or the file check's refusal with its record number.
-#[derive(Clone, Copy)]
-pub enum Started {
-    At(Cursor),
-    Refused { refusal: Refusal, record: u64 },
-}
-
-// A part and the cursor after it; without a part, an empty one and the cursor as it was.
+// A part and the cursor after it.
 #[derive(Clone, Copy)]
 pub struct Step {
-    pub has: bool,
     pub part: Part,
     pub next: Cursor,
 }
 
 // The cursor at the first part of the file, after the file check.
-pub fn start(file: &[u8], allowance: u64) -> Started
+pub fn start(file: &[u8], allowance: u64) -> Result<Cursor, Refused>
     ensures { result ≡ started_of allowance file.now }
 {
-    match file::check(file, allowance) {
-        Checked::Accepted { records: _ } => {
-            let read = Header::read_from(file);
-            let header = read.header;
-            Started::At(first(Outline::of(header)))
-        }
-        Checked::Refused {
-            refusal,
-            record,
-            records: _,
-        } => Started::Refused { refusal, record },
-    }
+    let header = file::open(file, allowance)?;
+    Ok(first(Outline::of(header)))
 }
 
 // The cursor at the first part.
@@ -131,9 +110,8 @@ fn start_of_later_records(o: Outline, end: u64) -> u64
     o.start_of_later_records
 }
 
-// The part at the cursor and the cursor after it. After the last part, and at a record that is not all there, it has none and
-// stays.
-pub fn next(file: &[u8], c: Cursor) -> Step
+// The part at the cursor and the cursor after it; none after the last part, and at a record that is not all there.
+pub fn next(file: &[u8], c: Cursor) -> Option<Step>
     ensures { result ≡ step_of file.now c }
 {
     let stage = c.stage;
@@ -147,7 +125,7 @@ pub fn next(file: &[u8], c: Cursor) -> Step
 }
 
 // The header with its padding, then the VLRs.
-fn step_header(p: Plan) -> Step
+fn step_header(p: Plan) -> Option<Step>
     ensures { result ≡ header_step p }
 {
     told(
@@ -164,7 +142,7 @@ fn step_header(p: Plan) -> Step
 }
 
 // A VLR; after the last the gap before the points, or the points.
-fn step_vlrs(file: &[u8], c: Cursor) -> Step
+fn step_vlrs(file: &[u8], c: Cursor) -> Option<Step>
     ensures { result ≡ vlrs_step file.now c }
 {
     let p = c.plan;
@@ -188,7 +166,7 @@ fn step_vlrs(file: &[u8], c: Cursor) -> Step
 }
 
 // The points, though there be none, then what lies after them.
-fn step_points(p: Plan) -> Step
+fn step_points(p: Plan) -> Option<Step>
     ensures { result ≡ points_step p }
 {
     told(
@@ -205,7 +183,7 @@ fn step_points(p: Plan) -> Step
 }
 
 // The gap after the points, or what comes after it.
-fn step_between(file: &[u8], c: Cursor) -> Step
+fn step_between(file: &[u8], c: Cursor) -> Option<Step>
     ensures { result ≡ between_step file.now c }
 {
     let p = c.plan;
@@ -222,7 +200,7 @@ fn step_between(file: &[u8], c: Cursor) -> Step
 }
 
 // A later record; after the last the gap at the end of the file.
-fn step_later(file: &[u8], c: Cursor) -> Step
+fn step_later(file: &[u8], c: Cursor) -> Option<Step>
     ensures { result ≡ later_step file.now c }
 {
     let len = file.len() as u64;
@@ -244,7 +222,7 @@ fn step_later(file: &[u8], c: Cursor) -> Step
             },
         );
     }
-    ended(c)
+    None
 }
 
 // What the later records are.
@@ -258,12 +236,12 @@ fn later_kind(waveform: bool) -> Kind
 }
 
 // The record at the cursor, which ends at or before `to`.
-fn step_record(file: &[u8], kind: Kind, extended: bool, to: u64, c: Cursor) -> Step
+fn step_record(file: &[u8], kind: Kind, extended: bool, to: u64, c: Cursor) -> Option<Step>
     requires { 0 < c.left }
     ensures { result ≡ record_step file.now kind extended to c }
 {
-    let Extent::Bytes(n) = vlr::measure(part_of(file, c.at, to), extended) else {
-        return ended(c);
+    let Ok(n) = vlr::measure(part_of(file, c.at, to), extended) else {
+        return None;
     };
     let stage = c.stage;
     let plan = c.plan;
@@ -308,31 +286,15 @@ fn distance(from: u64, to: u64) -> u64
 }
 
 // A part and where to go on.
-fn told(kind: Kind, start: u64, n: u64, next: Cursor) -> Step
+fn told(kind: Kind, start: u64, n: u64, next: Cursor) -> Option<Step>
     ensures { result ≡ told kind start n next }
 {
-    Step {
-        has: true,
+    Some(Step {
         part: Part {
             kind,
             start,
             length: n,
         },
         next,
-    }
-}
-
-// No part.
-fn ended(c: Cursor) -> Step
-    ensures { result ≡ ended c }
-{
-    Step {
-        has: false,
-        part: Part {
-            kind: Kind::Gap,
-            start: 0,
-            length: 0,
-        },
-        next: c,
-    }
+    })
 }

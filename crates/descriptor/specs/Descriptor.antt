@@ -1,15 +1,12 @@
 -- What reading and writing a descriptor answers, from the table of Layout and document 02, No. 8.
+use Rattle.std.specs.Prelude.{Result, Ok, Err}
+use Rattle.refusal.specs.declared.Refusal.{Refusal}
 use Rattle.std.specs.Prelude.{ℕ, ◌^◌, ◌<◌, ◌≡◌, cond, List, [], ◌∷◌, length, replicate, ltb}
 use Rattle.le.specs.Le.{num, bytes}
 use Rattle.refusal.specs.declared.Refusal.TheVariants as refusal
-use Rattle.lent.specs.declared.Wrote.{Wrote}
-use Rattle.lent.specs.declared.Wrote.TheVariants as wrote
 use Rattle.lent.specs.Front.{front_of}
 use Rattle.fields.specs.Table.{joined, part}
 use Rattle.descriptor.specs.declared.Descriptor.{Descriptor}
-use Rattle.descriptor.specs.declared.Described.{Described}
-use Rattle.descriptor.specs.declared.Described.TheVariants.{Whole, Refused}
-use Rattle.descriptor.specs.declared.DescriptorRead.{DescriptorRead}
 use Rattle.descriptor.specs.Layout.{Field, Reserved, DataType, Options, Name, Unused, NoData, Deprecated1, Min, Deprecated2, Max, Deprecated3, Scale, Deprecated4, Offset, Deprecated5, Description, fields, width, place, descriptor_size}
 
 -- the number, or the bytes, that s has in the place of a field
@@ -51,7 +48,7 @@ descriptor_of s =
       description = bytes_in Description s;
     }
 
--- a descriptor of zeros, which stands where one is refused
+-- a descriptor of zeros
 unfoldable pub no_descriptor : Descriptor
 no_descriptor =
     record {
@@ -74,18 +71,18 @@ no_descriptor =
     }
 
 -- refusal 1 where the bytes are not all there, then 39 where the type is above 10
-unfoldable pub described_of : List ℕ → Described
+unfoldable pub described_of : List ℕ → Result Unit Refusal
 described_of s =
-    cond (ltb (length s) descriptor_size) (Refused (refusal.Short descriptor_size))
-    (cond (ltb 10 (type_in s)) (Refused refusal.DataType) Whole)
+    cond (ltb (length s) descriptor_size) (Err (refusal.Short descriptor_size))
+    (cond (ltb 10 (type_in s)) (Err refusal.DataType) (Ok tt))
 
--- the first where the descriptor is read, the second where it is refused
-abbrev pub when_whole : {A : Type 0} → Described → A → A → A
-when_whole Whole x y = x
-when_whole (Refused r) x y = y
+-- the descriptor, or what it is refused for
+abbrev pub read_by : Descriptor → Result Unit Refusal → Result Descriptor Refusal
+read_by v (Ok tt) = Ok v
+read_by v (Err r) = Err r
 
-unfoldable pub read_of : List ℕ → DescriptorRead
-read_of s = record { answer = described_of s; descriptor = when_whole (described_of s) (descriptor_of s) no_descriptor }
+unfoldable pub read_of : List ℕ → Result Descriptor Refusal
+read_of s = read_by (descriptor_of s) (described_of s)
 
 -- the bytes of a field of v
 abbrev pub field_bytes : Descriptor → Field → List ℕ
@@ -111,8 +108,8 @@ unfoldable pub descriptor_bytes : Descriptor → List ℕ
 descriptor_bytes v = joined (field_bytes v) fields
 
 -- "when writing descriptors, a type above 10, then no room"
-unfoldable pub written_of : Descriptor → List ℕ → Wrote × List ℕ
-written_of v d = cond (ltb 10 v.data_type) (wrote.Refused refusal.DataType, d) (front_of (descriptor_bytes v) d)
+unfoldable pub written_of : Descriptor → List ℕ → Result ℕ Refusal × List ℕ
+written_of v d = cond (ltb 10 v.data_type) (Err refusal.DataType, d) (front_of (descriptor_bytes v) d)
 
 -- what the types say of a descriptor: arrays of their lengths, numbers in their widths
 abbrev pub Texts : Descriptor → Type 0

@@ -1,4 +1,5 @@
 -- What reading and writing descriptors comes to: document 02, No. 8, "Extra bytes by name".
+use Rattle.std.specs.Prelude.{Ok, Err}
 use Rattle.std.specs.Prelude.{ℕ, ◌≤◌, ◌<◌, ◌≡◌, refl, ◌↔◌, take, drop}
 use Rattle.std.proofs.Math.Path.{ap, sym}
 use Rattle.std.proofs.Common.{◌∙◌, arith}
@@ -7,11 +8,9 @@ use Rattle.std.proofs.Math.ListN.{length, length-append}
 use Rattle.le.specs.Le.{num, Bytes as IsBytes}
 use Rattle.refusal.specs.declared.Refusal.{Refusal}
 use Rattle.refusal.specs.declared.Refusal.TheVariants.{Short, DataType, NoRoom}
-use Rattle.lent.specs.declared.Wrote.TheVariants as wrote
 use Rattle.lent.specs.Front.{front_of}
 use Rattle.fields.specs.Table.{Follow, total}
 use Rattle.descriptor.specs.declared.Descriptor.{Descriptor}
-use Rattle.descriptor.specs.declared.Described.TheVariants.{Whole, Refused}
 use Rattle.descriptor.specs.Layout.{fields, width, place}
 use Rattle.descriptor.specs.Sizes.{size_of, above_ten}
 use Rattle.descriptor.specs.Descriptor.{type_in, descriptor_of, read_of, descriptor_bytes, written_of, Texts, Typed}
@@ -39,59 +38,55 @@ no_size = above_ten
 
 module _ (s : List ℕ) where
   -- "Read .. the descriptors": one is read exactly where its bytes are there and its type is not above 10,
-  pub read_exactly : ((read_of s).answer ≡ Whole) ↔ ((192 ≤ length s) × (type_in s ≤ 10))
-  unfolding read_of
-  read_exactly = read.read_exactly s
+  pub read_exactly : (v : Descriptor) → (read_of s ≡ Ok v) ↔ (((192 ≤ length s) × (type_in s ≤ 10)) × (v ≡ descriptor_of s))
+  read_exactly v =
+      (λ e. let q = read.read_says s e in (read.accepted s q.0, q.1), λ (h, is). read.read_whole s ((read.read_exactly s).1 h) ∙ ap Ok (sym is))
 
   -- and refused with 1 exactly where they are not, and with 39 exactly where they are and its type is above 10.
-  pub short_exactly : ((read_of s).answer ≡ Refused (Short 192)) ↔ (length s < 192)
-  unfolding read_of
-  short_exactly = read.short_exactly s
+  pub short_exactly : (read_of s ≡ Err (Short 192)) ↔ (length s < 192)
+  short_exactly = (λ e. (read.short_exactly s).0 (read.refused_says s e), λ h. read.read_refused s ((read.short_exactly s).1 h))
 
-  pub type_exactly : ((read_of s).answer ≡ Refused DataType) ↔ ((192 ≤ length s) × (10 < type_in s))
-  unfolding read_of
-  type_exactly = read.type_exactly s
+  pub type_exactly : (read_of s ≡ Err DataType) ↔ ((192 ≤ length s) × (10 < type_in s))
+  type_exactly = (λ e. (read.type_exactly s).0 (read.refused_says s e), λ h. read.read_refused s ((read.type_exactly s).1 h))
 
   -- "type at byte 2, options at byte 3, name in 32 bytes from byte 4"
-  pub stands_at : (read_of s).answer ≡ Whole → let v = (read_of s).descriptor in (v.data_type ≡ num 1 2 s) × (v.options ≡ num 1 3 s) × (v.name ≡ take 32 (drop 4 s))
-  stands_at p =
-      let taken = sym (read.answer_is s) ∙ p in
-      (read.type_read s taken, read.options_read s taken, read.name_read s taken)
+  pub stands_at : {v : Descriptor} → read_of s ≡ Ok v → (v.data_type ≡ num 1 2 s) × (v.options ≡ num 1 3 s) × (v.name ≡ take 32 (drop 4 s))
+  stands_at e = (read.type_read s e, read.options_read s e, read.name_read s e)
 
   -- What lies past its bytes is not looked at.
   pub never_past : read_of (take 192 s) ≡ read_of s
   never_past = cut.never_past s
 
   -- "Read and write": what is read, written, is the bytes that were read.
-  pub written_back : (d : List ℕ) → IsBytes s → (read_of s).answer ≡ Whole → written_of (read_of s).descriptor d ≡ front_of (take 192 s) d
+  pub written_back : (d : List ℕ) {v : Descriptor} → IsBytes s → read_of s ≡ Ok v → written_of v d ≡ front_of (take 192 s) d
   unfolding descriptor_of
-  written_back d b p =
-      let taken = sym (read.answer_is s) ∙ p in
-      let q = read.accepted s taken in
-      rw (read.read_whole s taken) (written.type_taken (descriptor_of s) d q.1 ∙ ap (λ (bs : List ℕ). front_of bs d) (bytes_back s b q.0))
+  written_back d b e =
+      let says = read.read_says s e in
+      let q = read.accepted s says.0 in
+      rw says.1 (written.type_taken (descriptor_of s) d q.1 ∙ ap (λ (bs : List ℕ). front_of bs d) (bytes_back s b q.0))
 
 module _ (v : Descriptor) (d : List ℕ) where
   -- What is written, read again, is the descriptor.
-  pub read_again : {n : ℕ} {d' : List ℕ} → Typed v → written_of v d ≡ (wrote.Bytes n, d') → read_of d' ≡ record { answer = Whole; descriptor = v }
+  pub read_again : {n : ℕ} {d' : List ℕ} → Typed v → written_of v d ≡ (Ok n, d') → read_of d' ≡ Ok v
   unfolding descriptor_of
   read_again {d' = d'} w p =
       let q = written.written v d w.texts p in
       let same : descriptor_of d' ≡ v = rw q.1 (fields_again v (drop 192 d) w) in
       let long : 192 ≤ length d' = omega (arith, ap length q.1 ∙ length-append (descriptor_bytes v) (drop 192 d), written.length_descriptor v w.texts) in
       let type : type_in d' ≤ 10 = omega (arith, q.0, ap (λ (x : Descriptor). x.data_type) same) in
-      read.read_whole d' (read.all_there d' long type) ∙ ap (λ (x : Descriptor). record { answer = Whole; descriptor = x }) same
+      read.read_whole d' (read.all_there d' long type) ∙ ap Ok same
 
   -- "when writing descriptors, a type above 10, then no room": each exactly so, and the rest is written; what lies past it stays.
   module _ (t : Texts v) where
-    pub refused_for_type : (written_of v d ≡ (wrote.Refused DataType, d)) ↔ (10 < v.data_type)
+    pub refused_for_type : (written_of v d ≡ (Err DataType, d)) ↔ (10 < v.data_type)
     refused_for_type = written.refused_for_type v d t
 
-    pub refused_for_room : (written_of v d ≡ (wrote.Refused (NoRoom 192), d)) ↔ ((v.data_type ≤ 10) × (length d < 192))
+    pub refused_for_room : (written_of v d ≡ (Err (NoRoom 192), d)) ↔ ((v.data_type ≤ 10) × (length d < 192))
     refused_for_room = written.refused_for_room v d t
 
-    pub written_exactly : (written_of v d ≡ (wrote.Bytes 192, descriptor_bytes v ++ drop 192 d)) ↔ ((v.data_type ≤ 10) × (192 ≤ length d))
+    pub written_exactly : (written_of v d ≡ (Ok 192, descriptor_bytes v ++ drop 192 d)) ↔ ((v.data_type ≤ 10) × (192 ≤ length d))
     written_exactly = written.written_exactly v d t
 
     -- A refused write leaves the destination as it was.
-    pub untouched : {r : Refusal} {d' : List ℕ} → written_of v d ≡ (wrote.Refused r, d') → d' ≡ d
+    pub untouched : {r : Refusal} {d' : List ℕ} → written_of v d ≡ (Err r, d') → d' ≡ d
     untouched p = written.untouched v d t p

@@ -1,11 +1,10 @@
 -- Laws of writing: a descriptor has 192 bytes, its fields stored each at its place are those, and what a write answers.
+use Rattle.std.specs.Prelude.{Result, Ok, Err}
 use Rattle.std.specs.Prelude.{ℕ, ◌≤◌, ◌<◌, ◌≡◌, refl, Bool, true, false, ◌↔◌, List, ◌++◌, ltb, length, drop}
 use Rattle.std.proofs.Common.{ap, subst, sym, ◌∙◌, arith, lt-ltb, le-ltb, ltb-true, ltb-false}
 use Rattle.std.proofs.lemmas.List.Edits.{sets}
 use Rattle.refusal.specs.declared.Refusal.{Refusal}
 use Rattle.refusal.specs.declared.Refusal.TheVariants.{DataType, NoRoom}
-use Rattle.lent.specs.declared.Wrote.{Wrote}
-use Rattle.lent.specs.declared.Wrote.TheVariants as wrote
 use Rattle.lent.specs.Front.{front_of}
 use Rattle.lent.specs.Laws.{front, no_front, whole}
 use Rattle.fields.specs.Table.{none, ◌&◌, Stored}
@@ -32,7 +31,7 @@ stored-fields v st = stored-joined width (field_bytes v) place fields 0 places_f
 
 -- what a write answers of a type above 10, and of another
 module _ (v : Descriptor) (d : List ℕ) where
-  pub type_refused : 10 < v.data_type → written_of v d ≡ (wrote.Refused DataType, d)
+  pub type_refused : 10 < v.data_type → written_of v d ≡ (Err DataType, d)
   unfolding written_of
   type_refused h = rw (lt-ltb _ _ h)
 
@@ -41,12 +40,12 @@ module _ (v : Descriptor) (d : List ℕ) where
   type_taken h = rw (le-ltb _ _ h)
 
   -- and then where there is no room, and where there is
-  pub no_room : Texts v → v.data_type ≤ 10 → length d < descriptor_size → written_of v d ≡ (wrote.Refused (NoRoom descriptor_size), d)
+  pub no_room : Texts v → v.data_type ≤ 10 → length d < descriptor_size → written_of v d ≡ (Err (NoRoom descriptor_size), d)
   no_room t h l =
       let n = length_descriptor v t in
       type_taken h ∙ no_front (descriptor_bytes v) d (omega arith) ∙ rw n
 
-  pub room : Texts v → v.data_type ≤ 10 → descriptor_size ≤ length d → written_of v d ≡ (wrote.Bytes descriptor_size, descriptor_bytes v ++ drop descriptor_size d)
+  pub room : Texts v → v.data_type ≤ 10 → descriptor_size ≤ length d → written_of v d ≡ (Ok descriptor_size, descriptor_bytes v ++ drop descriptor_size d)
   room t h l =
       let n = length_descriptor v t in
       type_taken h ∙ front (descriptor_bytes v) d (omega arith) ∙ rw n
@@ -57,10 +56,10 @@ module _ (v : Descriptor) (d : List ℕ) where
 
 module _ (v : Descriptor) (d : List ℕ) (t : Texts v) where
   -- the answers of a write, each with what led to it
-  data Writes : Wrote → Type 0 where
-    untyped : 10 < v.data_type → Writes (wrote.Refused DataType)
-    crowded : v.data_type ≤ 10 → length d < descriptor_size → Writes (wrote.Refused (NoRoom descriptor_size))
-    done : v.data_type ≤ 10 → descriptor_size ≤ length d → Writes (wrote.Bytes descriptor_size)
+  data Writes : Result ℕ Refusal → Type 0 where
+    untyped : 10 < v.data_type → Writes (Err DataType)
+    crowded : v.data_type ≤ 10 → length d < descriptor_size → Writes (Err (NoRoom descriptor_size))
+    done : v.data_type ≤ 10 → descriptor_size ≤ length d → Writes (Ok descriptor_size)
 
   writes : Writes (written_of v d).0
   writes = go (ltb 10 v.data_type) (ltb (length d) descriptor_size) refl refl
@@ -70,37 +69,37 @@ module _ (v : Descriptor) (d : List ℕ) (t : Texts v) where
       go false true p q = let h = ltb-false _ _ p in let l = ltb-true _ _ q in rw (no_room v d t h l) (crowded h l)
       go false false p q = let h = ltb-false _ _ p in let l = ltb-false _ _ q in rw (room v d t h l) (done h l)
 
-  led : {w : Wrote} {d' : List ℕ} → written_of v d ≡ (w, d') → Writes w
-  led p = subst Writes (ap (λ (x : Wrote × List ℕ). x.0) p) writes
+  led : {w : Result ℕ Refusal} {d' : List ℕ} → written_of v d ≡ (w, d') → Writes w
+  led p = subst Writes (ap (λ (x : Result ℕ Refusal × List ℕ). x.0) p) writes
 
-  pub refused_for_type : (written_of v d ≡ (wrote.Refused DataType, d)) ↔ (10 < v.data_type)
+  pub refused_for_type : (written_of v d ≡ (Err DataType, d)) ↔ (10 < v.data_type)
   refused_for_type = (λ p. of_untyped (led p), type_refused v d)
     where
-      of_untyped : Writes (wrote.Refused DataType) → 10 < v.data_type
+      of_untyped : Writes (Err DataType) → 10 < v.data_type
       of_untyped (untyped h) = h
 
-  pub refused_for_room : (written_of v d ≡ (wrote.Refused (NoRoom descriptor_size), d)) ↔ ((v.data_type ≤ 10) × (length d < descriptor_size))
+  pub refused_for_room : (written_of v d ≡ (Err (NoRoom descriptor_size), d)) ↔ ((v.data_type ≤ 10) × (length d < descriptor_size))
   refused_for_room = (λ p. of_crowded (led p), λ (h, l). no_room v d t h l)
     where
-      of_crowded : Writes (wrote.Refused (NoRoom descriptor_size)) → (v.data_type ≤ 10) × (length d < descriptor_size)
+      of_crowded : Writes (Err (NoRoom descriptor_size)) → (v.data_type ≤ 10) × (length d < descriptor_size)
       of_crowded (crowded h l) = (h, l)
 
-  pub written_exactly : (written_of v d ≡ (wrote.Bytes descriptor_size, descriptor_bytes v ++ drop descriptor_size d)) ↔ ((v.data_type ≤ 10) × (descriptor_size ≤ length d))
+  pub written_exactly : (written_of v d ≡ (Ok descriptor_size, descriptor_bytes v ++ drop descriptor_size d)) ↔ ((v.data_type ≤ 10) × (descriptor_size ≤ length d))
   written_exactly = (λ p. of-done (led p), λ (h, l). room v d t h l)
     where
-      of-done : Writes (wrote.Bytes descriptor_size) → (v.data_type ≤ 10) × (descriptor_size ≤ length d)
+      of-done : Writes (Ok descriptor_size) → (v.data_type ≤ 10) × (descriptor_size ≤ length d)
       of-done (done h l) = (h, l)
 
   -- what a count says of what is left, and a refusal
-  pub written : {n : ℕ} {d' : List ℕ} → written_of v d ≡ (wrote.Bytes n, d') → (v.data_type ≤ 10) × (d' ≡ descriptor_bytes v ++ drop descriptor_size d)
+  pub written : {n : ℕ} {d' : List ℕ} → written_of v d ≡ (Ok n, d') → (v.data_type ≤ 10) × (d' ≡ descriptor_bytes v ++ drop descriptor_size d)
   written p = of-done (led p) p
     where
-      of-done : {n : ℕ} {d' : List ℕ} → Writes (wrote.Bytes n) → written_of v d ≡ (wrote.Bytes n, d') → (v.data_type ≤ 10) × (d' ≡ descriptor_bytes v ++ drop descriptor_size d)
-      of-done (done h l) q = (h, ap (λ (x : Wrote × List ℕ). x.1) (sym q ∙ room v d t h l))
+      of-done : {n : ℕ} {d' : List ℕ} → Writes (Ok n) → written_of v d ≡ (Ok n, d') → (v.data_type ≤ 10) × (d' ≡ descriptor_bytes v ++ drop descriptor_size d)
+      of-done (done h l) q = (h, ap (λ (x : Result ℕ Refusal × List ℕ). x.1) (sym q ∙ room v d t h l))
 
-  pub untouched : {r : Refusal} {d' : List ℕ} → written_of v d ≡ (wrote.Refused r, d') → d' ≡ d
+  pub untouched : {r : Refusal} {d' : List ℕ} → written_of v d ≡ (Err r, d') → d' ≡ d
   untouched p = of-refused (led p) p
     where
-      of-refused : {r : Refusal} {d' : List ℕ} → Writes (wrote.Refused r) → written_of v d ≡ (wrote.Refused r, d') → d' ≡ d
-      of-refused (untyped h) q = ap (λ (x : Wrote × List ℕ). x.1) (sym q ∙ type_refused v d h)
-      of-refused (crowded h l) q = ap (λ (x : Wrote × List ℕ). x.1) (sym q ∙ no_room v d t h l)
+      of-refused : {r : Refusal} {d' : List ℕ} → Writes (Err r) → written_of v d ≡ (Err r, d') → d' ≡ d
+      of-refused (untyped h) q = ap (λ (x : Result ℕ Refusal × List ℕ). x.1) (sym q ∙ type_refused v d h)
+      of-refused (crowded h l) q = ap (λ (x : Result ℕ Refusal × List ℕ). x.1) (sym q ∙ no_room v d t h l)

@@ -9,7 +9,6 @@ ghost use Rattle.descriptor.specs.Layout.{fields, width, place, descriptor_size}
 ghost use Rattle.descriptor.specs.Sizes.{size_of};
 ghost use Rattle.descriptor.specs.Descriptor.{descriptor_of, no_descriptor, described_of, read_of, field_bytes, written_of};
 
-use lent::Wrote;
 use refusal::Refusal;
 
 #[derive(Clone, Copy)]
@@ -32,25 +31,11 @@ pub struct Descriptor {
     pub description: [u8; 32],
 }
 
-// Whether a descriptor is read, or why not.
-#[derive(Clone, Copy)]
-pub enum Described {
-    Whole,
-    Refused(Refusal),
-}
+// A descriptor of zeros.
+impl Default for Descriptor {
+    ghost is_default = { λ d. d ≡ no_descriptor };
 
-// The answer, and beside it the descriptor; one of zeros where the answer is a refusal.
-#[derive(Clone, Copy)]
-pub struct DescriptorRead {
-    pub answer: Described,
-    pub descriptor: Descriptor,
-}
-
-impl Descriptor {
-    // A descriptor of zeros.
-    pub fn default() -> Descriptor
-        ensures { result ≡ no_descriptor }
-    {
+    fn default() -> Descriptor {
         Descriptor {
             reserved: 0,
             data_type: 0,
@@ -70,52 +55,45 @@ impl Descriptor {
             description: [0; 32],
         }
     }
+}
 
+impl Descriptor {
     // Reads the descriptor at the start of `s`, and looks at nothing past its 192 bytes; refuses with 1 where they are not all
     // there, then with 39 where the type is above 10.
-    pub fn read_from(s: &[u8]) -> DescriptorRead
+    pub fn read_from(s: &[u8]) -> Result<Descriptor, Refusal>
         ensures { result ≡ read_of s.now }
     {
-        let answer = judge(s);
-        match answer {
-            Described::Whole => DescriptorRead {
-                answer,
-                descriptor: contents(s),
-            },
-            Described::Refused(_) => DescriptorRead {
-                answer,
-                descriptor: Descriptor::default(),
-            },
-        }
+        judge(s)?;
+        Ok(contents(s))
     }
 
     // Writes the descriptor's 192 bytes to the front of `dst`, answers their count and leaves what lies past them. Refuses with 39
     // where the type is above 10, then with 22; a refusal changes nothing.
-    pub fn write_to(self, dst: &mut [u8]) -> Wrote
+    pub fn write_to(self, dst: &mut [u8]) -> Result<usize, Refusal>
         ensures { (result, dst.new) ≡ written_of self dst.old }
     {
         if self.data_type > 10 {
-            return Wrote::Refused(Refusal::DataType);
+            return Err(Refusal::DataType);
         }
         if dst.len() < 192 {
-            return Wrote::Refused(Refusal::NoRoom(192));
+            return Err(Refusal::NoRoom(192));
         }
         store_contents(self, dst);
-        Wrote::Bytes(192)
+        Ok(192)
     }
 }
 
 // Whether the bytes at the start of `s` are a descriptor.
-fn judge(s: &[u8]) -> Described
+fn judge(s: &[u8]) -> Result<(), Refusal>
     ensures { result ≡ described_of s.now }
 {
     if s.len() < 192 {
-        return Described::Refused(Refusal::Short(192));
+        return Err(Refusal::Short(192));
     }
     if le::u8_at(s, 2) > 10 {
-        return Described::Refused(Refusal::DataType);
+        return Err(Refusal::DataType);
     }
-    Described::Whole
+    Ok(())
 }
 
 // The descriptor at the start of `s`, each field from its place.
@@ -127,19 +105,19 @@ fn contents(s: &[u8]) -> Descriptor
         reserved: le::u16_at(s, 0),
         data_type: le::u8_at(s, 2),
         options: le::u8_at(s, 3),
-        name: store::bytes32(s, 4),
+        name: store::bytes_at(s, 4),
         unused: le::u32_at(s, 36),
         no_data: le::u64_at(s, 40),
-        deprecated1: store::bytes16(s, 48),
+        deprecated1: store::bytes_at(s, 48),
         min: le::u64_at(s, 64),
-        deprecated2: store::bytes16(s, 72),
+        deprecated2: store::bytes_at(s, 72),
         max: le::u64_at(s, 88),
-        deprecated3: store::bytes16(s, 96),
+        deprecated3: store::bytes_at(s, 96),
         scale: le::u64_at(s, 112),
-        deprecated4: store::bytes16(s, 120),
+        deprecated4: store::bytes_at(s, 120),
         offset: le::u64_at(s, 136),
-        deprecated5: store::bytes16(s, 144),
-        description: store::bytes32(s, 160),
+        deprecated5: store::bytes_at(s, 144),
+        description: store::bytes_at(s, 160),
     }
 }
 

@@ -1,15 +1,12 @@
 -- The directory of coordinate keys: document 02, No. 14, "The directory has four numbers in front, the last one the number of keys, and four
 -- for each key: key, location, count, value or index."
-use Rattle.std.specs.Prelude.{ℕ, zero, suc, ◌+◌, ◌*◌, ◌-◌, Bool, true, false, cond, ◌&&◌, ◌||◌, List, eqb, ltb, leb, length}
+use Rattle.refusal.specs.declared.Refusal.{Refusal}
+use Rattle.std.specs.Prelude.{ℕ, zero, suc, ◌+◌, ◌*◌, ◌-◌, Bool, true, false, cond, ◌&&◌, ◌||◌, List, eqb, ltb, leb, length, Option, Some, None, Result, Ok, Err}
 use Rattle.refusal.specs.declared.Refusal.TheVariants.{DirectoryShort, KeysNotRising, UnknownLocation, TargetAbsent, TargetBeyond}
 use Rattle.le.specs.Le.{num}
 use Rattle.directory.specs.declared.Entry.{Entry}
-use Rattle.directory.specs.declared.Target.{Target}
-use Rattle.directory.specs.declared.Target.TheVariants.{Bytes, Absent}
 use Rattle.directory.specs.declared.Question.{Question}
 use Rattle.directory.specs.declared.Question.TheVariants.{Rising, Known, There, Within}
-use Rattle.directory.specs.declared.Judged.{Judged}
-use Rattle.directory.specs.declared.Judged.TheVariants.{Keys, Refused}
 
 -- the number of keys
 abbrev pub count_of : List ℕ → ℕ
@@ -36,29 +33,29 @@ rising_at key k = eqb k 0 || ltb (key (k - 1)) (key k)
 abbrev pub known : Entry → Bool
 known e = eqb e.location 0 || (eqb e.location 34736 || eqb e.location 34737)
 
-abbrev pub record_for : ℕ → Target → Target → Target
+abbrev pub record_for : ℕ → Option ℕ → Option ℕ → Option ℕ
 record_for location doubles text = cond (eqb location 34736) doubles text
 
-abbrev pub present : Target → Bool
-present (Bytes n) = true
-present Absent = false
+abbrev pub present : Option ℕ → Bool
+present (Some n) = true
+present None = false
 
-abbrev pub there : Target → Target → Entry → Bool
+abbrev pub there : Option ℕ → Option ℕ → Entry → Bool
 there doubles text e = eqb e.location 0 || present (record_for e.location doubles text)
 
 -- "by index and count": of doubles, eight bytes each, or of bytes of text
 abbrev pub bytes_of : ℕ → ℕ → ℕ
 bytes_of location n = cond (eqb location 34736) (8 * n) n
 
-abbrev pub holds : Target → ℕ → Bool
-holds (Bytes n) end = leb end n
-holds Absent end = false
+abbrev pub holds : Option ℕ → ℕ → Bool
+holds (Some n) end = leb end n
+holds None end = false
 
-abbrev pub within : Target → Target → Entry → Bool
+abbrev pub within : Option ℕ → Option ℕ → Entry → Bool
 within doubles text e = eqb e.location 0 || holds (record_for e.location doubles text) (bytes_of e.location (e.index + e.count))
 
 -- what is asked of entry k
-unfoldable pub passes : Question → Target → Target → List ℕ → ℕ → Bool
+unfoldable pub passes : Question → Option ℕ → Option ℕ → List ℕ → ℕ → Bool
 passes Rising doubles text d k = rising_at (key_of d) k
 passes Known doubles text d k = known (entry_of d k)
 passes There doubles text d k = there doubles text (entry_of d k)
@@ -70,15 +67,15 @@ every f zero = true
 every f (suc n) = every f n && f n
 
 -- "directory short; keys not rising; unknown location; target record absent; target beyond its end", "each over the whole directory"
-unfoldable pub judged_of : List ℕ → Target → Target → Judged
+unfoldable pub judged_of : List ℕ → Option ℕ → Option ℕ → Result ℕ Refusal
 judged_of d doubles text =
     let all : Question → Bool = λ q. every (passes q doubles text d) (count_of d) in
-    cond (ltb (length d) (8 + 8 * count_of d)) (Refused DirectoryShort)
+    cond (ltb (length d) (8 + 8 * count_of d)) (Err DirectoryShort)
     (cond (all Rising)
     (cond (all Known)
-    (cond (all There) (cond (all Within) (Keys (count_of d)) (Refused TargetBeyond)) (Refused TargetAbsent))
-    (Refused UnknownLocation))
-    (Refused KeysNotRising))
+    (cond (all There) (cond (all Within) (Ok (count_of d)) (Err TargetBeyond)) (Err TargetAbsent))
+    (Err UnknownLocation))
+    (Err KeysNotRising))
 
 -- the first of n places, from k on, where a rule gives x; the place after them where it gives x nowhere
 unfoldable pub place_from : (ℕ → ℕ) → ℕ → ℕ → ℕ → ℕ

@@ -16,13 +16,6 @@ pub struct Entry {
     pub index: u16,
 }
 
-// A record that values of keys stand in: how many bytes it holds.
-#[derive(Clone, Copy)]
-pub enum Target {
-    Bytes(usize),
-    Absent,
-}
-
 // What is asked of each entry of a directory.
 #[derive(Clone, Copy)]
 pub enum Question {
@@ -32,53 +25,53 @@ pub enum Question {
     Within,
 }
 
-// How many keys a directory has, or why it is refused.
-#[derive(Clone, Copy)]
-pub enum Judged {
-    Keys(u16),
-    Refused(Refusal),
-}
-
 // A directory judged, with the records that its values stand in. Refused, each for the whole directory: 43 where it is shorter than its
 // keys, 44 where a key is not above the one before it, 45 where a location is not 0, 34736 or 34737, 46 where the record of a location
 // is absent, 47 where a value ends beyond its record.
-pub fn judge(directory: &[u8], doubles: Target, text: Target) -> Judged
+pub fn judge(directory: &[u8], doubles: Option<usize>, text: Option<usize>) -> Result<u16, Refusal>
     ensures { result ≡ judged_of directory.now doubles text }
 {
     let n = le::u16_at(directory, 6);
     // Eight bytes in front and eight for each key, so that one of less than eight is short too.
     if directory.len() < 8 + 8 * (n as usize) {
-        return Judged::Refused(Refusal::DirectoryShort);
+        return Err(Refusal::DirectoryShort);
     }
     if !all_pass(directory, n, Question::Rising, doubles, text) {
-        return Judged::Refused(Refusal::KeysNotRising);
+        return Err(Refusal::KeysNotRising);
     }
     if !all_pass(directory, n, Question::Known, doubles, text) {
-        return Judged::Refused(Refusal::UnknownLocation);
+        return Err(Refusal::UnknownLocation);
     }
     if !all_pass(directory, n, Question::There, doubles, text) {
-        return Judged::Refused(Refusal::TargetAbsent);
+        return Err(Refusal::TargetAbsent);
     }
     if !all_pass(directory, n, Question::Within, doubles, text) {
-        return Judged::Refused(Refusal::TargetBeyond);
+        return Err(Refusal::TargetBeyond);
     }
-    Judged::Keys(n)
+    Ok(n)
 }
 
 // Whether each of n entries passes.
-fn all_pass(directory: &[u8], n: u16, question: Question, doubles: Target, text: Target) -> bool
+fn all_pass(
+    directory: &[u8],
+    n: u16,
+    question: Question,
+    doubles: Option<usize>,
+    text: Option<usize>,
+) -> bool
     ensures { result ≡ every (passes question doubles text directory.now) n }
 {
-    for k in 0..n {
-        if !entry_passes(directory, k, question, doubles, text) {
-            return false;
-        }
-    }
-    true
+    (0..n).all(|k| entry_passes(directory, k, question, doubles, text))
 }
 
 // Whether the entry with number k, the first being 0, passes.
-fn entry_passes(directory: &[u8], k: u16, question: Question, doubles: Target, text: Target) -> bool
+fn entry_passes(
+    directory: &[u8],
+    k: u16,
+    question: Question,
+    doubles: Option<usize>,
+    text: Option<usize>,
+) -> bool
     ensures { result ≡ passes question doubles text directory.now k }
 {
     match question {
@@ -103,43 +96,27 @@ fn is_rising(directory: &[u8], k: u16) -> bool
 fn is_known(e: Entry) -> bool
     ensures { result ≡ known e }
 {
-    if e.location == 0 {
-        return true;
-    }
-    if e.location == 34736 {
-        return true;
-    }
-    e.location == 34737
+    e.location == 0 || e.location == 34736 || e.location == 34737
 }
 
 // Whether the record that an entry points into is there.
-fn is_there(e: Entry, doubles: Target, text: Target) -> bool
+fn is_there(e: Entry, doubles: Option<usize>, text: Option<usize>) -> bool
     ensures { result ≡ there doubles text e }
 {
-    if e.location == 0 {
-        return true;
-    }
-    match record_for(e.location, doubles, text) {
-        Target::Bytes(_) => true,
-        Target::Absent => false,
-    }
+    e.location == 0 || record_for(e.location, doubles, text).is_some()
 }
 
 // Whether the values that an entry points to end in their record.
-fn is_within(e: Entry, doubles: Target, text: Target) -> bool
+fn is_within(e: Entry, doubles: Option<usize>, text: Option<usize>) -> bool
     ensures { result ≡ within doubles text e }
 {
-    if e.location == 0 {
-        return true;
-    }
-    match record_for(e.location, doubles, text) {
-        Target::Bytes(n) => bytes(e.location, (e.index as u32) + (e.count as u32)) <= n,
-        Target::Absent => false,
-    }
+    let values = (e.index as u32) + (e.count as u32);
+    e.location == 0
+        || record_for(e.location, doubles, text).is_some_and(|n| bytes(e.location, values) <= n)
 }
 
 // The record of a location: 34736 is the doubles, and every other one of interest the text.
-fn record_for(location: u16, doubles: Target, text: Target) -> Target
+fn record_for(location: u16, doubles: Option<usize>, text: Option<usize>) -> Option<usize>
     ensures { result ≡ record_for location doubles text }
 {
     if location == 34736 {
@@ -182,10 +159,7 @@ fn key_at(directory: &[u8], k: u16) -> u16
 pub fn place(directory: &[u8], n: u16, wanted: u16) -> u16
     ensures { result ≡ place_of (key_of directory.now) wanted n }
 {
-    for k in 0..n {
-        if key_at(directory, k) == wanted {
-            return k;
-        }
-    }
-    n
+    (0..n)
+        .find(|k| key_at(directory, *k) == wanted)
+        .unwrap_or(n)
 }

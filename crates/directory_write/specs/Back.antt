@@ -1,5 +1,5 @@
 -- Laws of what a write answers and leaves, and that it reads back.
-use Rattle.std.specs.Prelude.{ℕ, zero, suc, ◌+◌, ◌*◌, ◌-◌, ◌≤◌, ◌<◌, ◌≡◌, refl, Bool, true, false, ◌||◌, List, [], ◌∷◌, ◌++◌, ◌⊎◌, ltb, eqb, length, take, drop, get_or}
+use Rattle.std.specs.Prelude.{ℕ, zero, suc, ◌+◌, ◌*◌, ◌-◌, ◌≤◌, ◌<◌, ◌≡◌, refl, Bool, true, false, ◌||◌, List, [], ◌∷◌, ◌++◌, ◌⊎◌, ltb, eqb, length, take, drop, get_or, Result, Ok, Err}
 use Rattle.std.proofs.Math.Path.{ap}
 use Rattle.std.proofs.Common.{sym, ◌∙◌, inl, inr, arith, ltb-true, ltb-false, length-append, length-take-le}
 use Rattle.std.proofs.Math.Seq.{get_or-append-add, get_or-take}
@@ -7,8 +7,6 @@ use Rattle.refusal.specs.declared.Refusal.{Refusal}
 use Rattle.le.specs.Le.{num, bytes}
 use Rattle.le.specs.Laws.{num-bytes}
 use Rattle.le.specs.Part.{num-drop}
-use Rattle.lent.specs.declared.Wrote.{Wrote}
-use Rattle.lent.specs.declared.Wrote.TheVariants.{Bytes, Refused}
 use Rattle.directory.specs.Directory.{count_of, key_of, entry_of, rising_at, every, place_of}
 use Rattle.directory.specs.Laws.{every-passes, one_fails, decided, entry_is}
 use Rattle.directory.specs.Order.{Sought, there, nowhere, placed, only}
@@ -97,12 +95,12 @@ module _ (ks d : List ℕ) where
   rises : Rising ks → every (rising_at (given_key ks)) (given_count ks) ≡ true
   rises h = every-passes (rising_at (given_key ks)) (given_count ks) h
 
-  pub then_refused : {why : Refusal} → RefusedFor ks (length d) why → written_of ks d ≡ (Refused why, d)
+  pub then_refused : {why : Refusal} → RefusedFor ks (length d) why → written_of ks d ≡ (Err why, d)
   then_refused (not_rising (k, h, e)) = then_falling ks d (one_fails (rising_at (given_key ks)) (given_count ks) k h e)
   then_refused (too_many r h) = then_many ks d (rises r) h
   then_refused (no_room r few h) = then_short ks d (rises r) few h
 
-  pub then_put : WrittenFor ks (length d) → written_of ks d ≡ (Bytes (wanted ks), directory_bytes ks ++ drop (wanted ks) d)
+  pub then_put : WrittenFor ks (length d) → written_of ks d ≡ (Ok (wanted ks), directory_bytes ks ++ drop (wanted ks) d)
   then_put (r, few, h) = then_written ks d (rises r) few h
 
   pub data Outcome : Type 0 where
@@ -124,25 +122,25 @@ module _ (ks d : List ℕ) where
       by_order (inl r) = by_count r (ltb 8190 (given_count ks)) refl
       by_order (inr f) = refused (not_rising f)
 
-  pub was-refused : {why : Refusal} → (written_of ks d).0 ≡ Refused why → RefusedFor ks (length d) why
+  pub was-refused : {why : Refusal} → (written_of ks d).0 ≡ Err why → RefusedFor ks (length d) why
   was-refused {why} e = go outcome
     where
       go : Outcome → RefusedFor ks (length d) why
       go (refused {why = r} h) =
-          let told : (written_of ks d).0 ≡ Refused r = ap (λ (w : Wrote × List ℕ). w.0) (then_refused h) in
+          let told : (written_of ks d).0 ≡ Err r = ap (λ (w : Result ℕ Refusal × List ℕ). w.0) (then_refused h) in
           let same : r ≡ why = cc in
           rw (← same) h
       go (written h) =
-          let told : (written_of ks d).0 ≡ Bytes (wanted ks) = ap (λ (w : Wrote × List ℕ). w.0) (then_put h) in
+          let told : (written_of ks d).0 ≡ Ok (wanted ks) = ap (λ (w : Result ℕ Refusal × List ℕ). w.0) (then_put h) in
           let z : ◌≡◌ {A = ℕ} 0 1 = cc in
           absurd (omega arith)
 
-  pub was-written : {n : ℕ} → (written_of ks d).0 ≡ Bytes n → WrittenFor ks (length d) × (n ≡ wanted ks)
+  pub was-written : {n : ℕ} → (written_of ks d).0 ≡ Ok n → WrittenFor ks (length d) × (n ≡ wanted ks)
   was-written {n} e = go outcome
     where
       go : Outcome → WrittenFor ks (length d) × (n ≡ wanted ks)
       go (refused {why = r} h) =
-          let told : (written_of ks d).0 ≡ Refused r = ap (λ (w : Wrote × List ℕ). w.0) (then_refused h) in
+          let told : (written_of ks d).0 ≡ Err r = ap (λ (w : Result ℕ Refusal × List ℕ). w.0) (then_refused h) in
           let z : ◌≡◌ {A = ℕ} 0 1 = cc in
           absurd (omega arith)
-      go (written h) = let told : (written_of ks d).0 ≡ Bytes (wanted ks) = ap (λ (w : Wrote × List ℕ). w.0) (then_put h) in (h, cc)
+      go (written h) = let told : (written_of ks d).0 ≡ Ok (wanted ks) = ap (λ (w : Result ℕ Refusal × List ℕ). w.0) (then_put h) in (h, cc)

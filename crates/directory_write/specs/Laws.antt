@@ -1,5 +1,5 @@
 -- Laws of numbers of two bytes, one after the other.
-use Rattle.std.specs.Prelude.{ℕ, suc, ◌+◌, ◌*◌, ◌≤◌, ◌<◌, ◌≡◌, refl, Bool, true, false, drop, get_or}
+use Rattle.std.specs.Prelude.{ℕ, suc, ◌+◌, ◌*◌, ◌≤◌, ◌<◌, ◌≡◌, refl, Bool, true, false, drop, get_or, Ok, Err}
 use Rattle.std.proofs.Math.Path.{ap, sym}
 use Rattle.std.proofs.Common.{◌∙◌, add-one, arith, length-append, drop-cons, length-take-le}
 use mathlib.Core.List.{List, [], ◌∷◌, ◌++◌}
@@ -9,7 +9,6 @@ use Rattle.std.proofs.Math.Seq.{sets}
 use Rattle.le.specs.Le.{bytes}
 use Rattle.le.specs.Laws.{length-bytes}
 use Rattle.refusal.specs.declared.Refusal.TheVariants.{NoRoom, KeysNotRising, TooManyKeys}
-use Rattle.lent.specs.declared.Wrote.TheVariants.{Bytes, Refused}
 use Rattle.lent.specs.Front.{front_of}
 use Rattle.lent.specs.Laws.{sets_append, whole, front, no_front}
 use Rattle.directory.specs.Directory.{rising_at, every}
@@ -55,12 +54,12 @@ module _ (ks d : List ℕ) where
   abbrev pub all_rise : Bool
   all_rise = every (rising_at (given_key ks)) (given_count ks)
 
-  pub then_falling : all_rise ≡ false → written_of ks d ≡ (Refused KeysNotRising, d)
+  pub then_falling : all_rise ≡ false → written_of ks d ≡ (Err KeysNotRising, d)
   unfolding written_of
   then_falling e = rw e
 
   module _ (rising : all_rise ≡ true) where
-    pub then_many : 8190 < given_count ks → written_of ks d ≡ (Refused TooManyKeys, d)
+    pub then_many : 8190 < given_count ks → written_of ks d ≡ (Err TooManyKeys, d)
     unfolding written_of
     then_many h = rw (rising, lt-ltb _ _ h)
 
@@ -69,11 +68,11 @@ module _ (ks d : List ℕ) where
       unfolding written_of
       then_front = rw (rising, le-ltb _ _ few)
 
-      pub then_short : length d < 8 + 8 * given_count ks → written_of ks d ≡ (Refused (NoRoom (8 + 8 * given_count ks)), d)
+      pub then_short : length d < 8 + 8 * given_count ks → written_of ks d ≡ (Err (NoRoom (8 + 8 * given_count ks)), d)
       then_short h =
-          then_front ∙ no_front (directory_bytes ks) d (omega (arith, length_directory ks)) ∙ ap (λ (n : ℕ). (Refused (NoRoom n), d)) (length_directory ks)
+          then_front ∙ no_front (directory_bytes ks) d (omega (arith, length_directory ks)) ∙ ap (λ (n : ℕ). (Err (NoRoom n), d)) (length_directory ks)
 
-      pub then_written : 8 + 8 * given_count ks ≤ length d → written_of ks d ≡ (Bytes (8 + 8 * given_count ks), directory_bytes ks ++ drop (8 + 8 * given_count ks) d)
+      pub then_written : 8 + 8 * given_count ks ≤ length d → written_of ks d ≡ (Ok (8 + 8 * given_count ks), directory_bytes ks ++ drop (8 + 8 * given_count ks) d)
       then_written h =
           then_front ∙ front (directory_bytes ks) d (omega (arith, length_directory ks))
-          ∙ ap (λ (n : ℕ). (Bytes n, directory_bytes ks ++ drop n d)) (length_directory ks)
+          ∙ ap (λ (n : ℕ). (Ok n, directory_bytes ks ++ drop n d)) (length_directory ks)

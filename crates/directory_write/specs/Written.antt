@@ -1,10 +1,9 @@
 -- A directory that is written: document 02, No. 14, "write a directory from keys in rising order", "Writing refuses keys not rising, over
 -- 8,190 keys, then no room."
-use Rattle.std.specs.Prelude.{ℕ, ◌*◌, ◌/◌, cond, List, [], ◌∷◌, ◌++◌, ltb, length, take, get_or}
+use Rattle.refusal.specs.declared.Refusal.{Refusal}
+use Rattle.std.specs.Prelude.{ℕ, ◌*◌, ◌/◌, cond, List, [], ◌∷◌, ◌++◌, ltb, length, take, get_or, Result, Err}
 use Rattle.refusal.specs.declared.Refusal.TheVariants.{KeysNotRising, TooManyKeys}
 use Rattle.le.specs.Le.{bytes}
-use Rattle.lent.specs.declared.Wrote.{Wrote}
-use Rattle.lent.specs.declared.Wrote.TheVariants.{Refused}
 use Rattle.lent.specs.Front.{front_of}
 use Rattle.directory.specs.Directory.{rising_at, every}
 
@@ -28,8 +27,8 @@ unfoldable pub directory_bytes : List ℕ → List ℕ
 directory_bytes ks = number_bytes (in_front ks ++ take (4 * given_count ks) ks)
 
 -- what a write answers, and leaves of d
-unfoldable pub written_of : List ℕ → List ℕ → Wrote × List ℕ
+unfoldable pub written_of : List ℕ → List ℕ → Result ℕ Refusal × List ℕ
 written_of ks d =
     cond (every (rising_at (given_key ks)) (given_count ks))
-    (cond (ltb 8190 (given_count ks)) (Refused TooManyKeys, d) (front_of (directory_bytes ks) d))
-    (Refused KeysNotRising, d)
+    (cond (ltb 8190 (given_count ks)) (Err TooManyKeys, d) (front_of (directory_bytes ks) d))
+    (Err KeysNotRising, d)

@@ -1,4 +1,7 @@
 -- One list of rules after another, and what the rules of the header leave to those of the parts.
+use Rattle.std.specs.Prelude.{Result, Ok, Err}
+use Rattle.rules.specs.NotAccepted.{not_accepted}
+use Rattle.rules.specs.declared.NotAccepted.{NotAccepted}
 use Prim.Native.Nat.{ℕ, ◌+◌, ◌-◌, ◌*◌, ◌/◌, ◌≤◌, ◌<◌}
 use mathlib.Core.Path.{◌≡◌, sym, ◌∙◌}
 use mathlib.Core.List.{List, ◌++◌}
@@ -8,20 +11,18 @@ use borrow.Author.Tests.{leb-true}
 use lib.ListN.{length}
 use Rattle.refusal.specs.declared.Refusal.{Refusal}
 use Rattle.outline.specs.declared.Outline.{Outline}
-use Rattle.rules.specs.declared.Checked.{Checked}
-use Rattle.rules.specs.declared.Checked.TheVariants.{Accepted, Refused}
 use Rattle.rules.specs.Rules.{Rule, first, format_bytes, header_rules}
 use Rattle.extents.specs.Steps.{Bounded}
 use Rattle.rules.specs.Laws.{format_bytes_lem}
 use Rattle.rules.specs.First.{All, first-append, all_hold, accepted-all, refused-first}
 
-module _ (xs ys : List Rule) (done : Checked) (n : ℕ) {x : Checked} (e : x ≡ first xs (Accepted n)) where
+module _ (xs ys : List Rule) (done : Result ℕ NotAccepted) (n : ℕ) {x : Result ℕ NotAccepted} (e : x ≡ first xs (Ok n)) where
   -- a refusal of the first list is the answer of both
-  pub then_refused : {r : Refusal} {k m : ℕ} → x ≡ Refused r k m → x ≡ first (xs ++ ys) done
+  pub then_refused : {r : Refusal} {k m : ℕ} → x ≡ Err (not_accepted r k m) → x ≡ first (xs ++ ys) done
   then_refused p = p ∙ sym (refused-first xs (first ys done) n (sym e ∙ p)) ∙ sym (first-append xs ys done)
 
   -- and where it has none, the answer of the second is
-  pub then_accepted : {m : ℕ} {y : Checked} → x ≡ Accepted m → y ≡ first ys done → y ≡ first (xs ++ ys) done
+  pub then_accepted : {m : ℕ} {y : Result ℕ NotAccepted} → x ≡ Ok m → y ≡ first ys done → y ≡ first (xs ++ ys) done
   then_accepted p q = q ∙ sym (all_hold xs (first ys done) (accepted-all xs (sym e ∙ p)).0) ∙ sym (first-append xs ys done)
 
 -- rules 2 to 5 bound what the parts are cut from

@@ -2,50 +2,49 @@
 #![tactic(auto)]
 
 ghost use Rattle.std.specs.Prelude.{◌≡◌, ◌∷◌};
-ghost use Rattle.rules.specs.declared.Checked.TheVariants as checked;
 ghost use Rattle.rules.specs.Rules.{first};
 ghost use Rattle.extents.specs.Extents.{points_end, point_rule, start_refusal, later_rules, part_rules, outline_rules, records_of};
 ghost use Rattle.extents.specs.Steps.{Bounded};
 
 use outline::Outline;
 use refusal::Refusal;
-use rules::Checked;
+use rules::NotAccepted;
 
 // Rules 2 to 8, for a header whose standard size is `block`.
-pub fn check(file: &[u8], allowance: u64, block: usize, minor: u8, o: Outline) -> Checked
-    ensures { result ≡ first (outline_rules block minor allowance o file.now) (checked.Accepted (records_of o)) }
+pub fn check(
+    file: &[u8],
+    allowance: u64,
+    block: usize,
+    minor: u8,
+    o: Outline,
+) -> Result<u64, NotAccepted>
+    ensures { result ≡ first (outline_rules block minor allowance o file.now) (Ok (records_of o)) }
 {
-    let head = rules::check_header(block, minor, o, file.len());
-    let Checked::Accepted { records: _ } = head else {
-        return head;
-    };
+    rules::check_header(block, minor, o, file.len())?;
     check_parts(file, allowance, o)
 }
 
 // Rules 6 to 8.
-fn check_parts(file: &[u8], allowance: u64, o: Outline) -> Checked
+fn check_parts(file: &[u8], allowance: u64, o: Outline) -> Result<u64, NotAccepted>
     requires { Bounded o file.now }
-    ensures { result ≡ first (part_rules allowance o file.now) (checked.Accepted (records_of o)) }
+    ensures { result ≡ first (part_rules allowance o file.now) (Ok (records_of o)) }
 {
     let from = o.header_size as usize;
     let to = o.offset_to_point_data as usize;
-    let vlrs = rules::check_records(
+    rules::check_records(
         &file[from..to],
         false,
         allowance,
         0,
         o.number_of_variable_length_records,
-    );
-    let Checked::Accepted { records: _ } = vlrs else {
-        return vlrs;
-    };
+    )?;
     check_points(file, allowance, o)
 }
 
 // Rules 7 and 8. The points' end is tested by a division, so nothing wraps.
-fn check_points(file: &[u8], allowance: u64, o: Outline) -> Checked
+fn check_points(file: &[u8], allowance: u64, o: Outline) -> Result<u64, NotAccepted>
     requires { Bounded o file.now }
-    ensures { result ≡ first (point_rule o file.now ∷ later_rules allowance o file.now) (checked.Accepted (records_of o)) }
+    ensures { result ≡ first (point_rule o file.now ∷ later_rules allowance o file.now) (Ok (records_of o)) }
 {
     let offset = o.offset_to_point_data as usize;
     let record_length = o.point_data_record_length as usize;
@@ -60,16 +59,14 @@ fn check_points(file: &[u8], allowance: u64, o: Outline) -> Checked
 }
 
 // Rule 8, or the same of the waveform packets, for points that end at `end`.
-fn check_later(file: &[u8], allowance: u64, o: Outline, end: usize) -> Checked
+fn check_later(file: &[u8], allowance: u64, o: Outline, end: usize) -> Result<u64, NotAccepted>
     requires { end ≡ points_end o }
-    ensures { result ≡ first (later_rules allowance o file.now) (checked.Accepted (records_of o)) }
+    ensures { result ≡ first (later_rules allowance o file.now) (Ok (records_of o)) }
 {
     let vlrs = o.number_of_variable_length_records;
     let start = o.start_of_later_records;
     if o.number_of_later_records == 0 {
-        return Checked::Accepted {
-            records: vlrs as u64,
-        };
+        return Ok(vlrs as u64);
     }
     if start < end as u64 {
         return rules::refused(start_refusal(o), vlrs as u64);

@@ -1,4 +1,8 @@
 -- The records found whole: never more than the allowance, and each of at least 54 bytes of the file.
+use Rattle.std.specs.Prelude.{Result, Ok, Err}
+use Rattle.header.specs.declared.Whole.{Whole}
+use Rattle.refusal.specs.declared.Refusal.{Refusal}
+use Rattle.rules.specs.declared.NotAccepted.{NotAccepted}
 use Prim.Native.Nat.{ℕ, zero, suc, ◌+◌, ◌*◌, ◌-◌, ◌≤◌}
 use Rattle.std.specs.Prelude.{◌≡◌, Bool, cond, T, eqb, length, drop}
 use Rattle.std.proofs.Math.Path.{refl}
@@ -10,13 +14,9 @@ use borrow.Author.Tests.{ltb-true, leb-true}
 use Rattle.std.proofs.Math.ListN.{length-drop}
 use Rattle.vlr.specs.Vlr.{record_size}
 use Rattle.vlr.specs.Laws.{record_least}
-use Rattle.header.specs.declared.HeaderAnswer.{HeaderAnswer}
-use Rattle.header.specs.declared.HeaderAnswer.TheVariants as answer
-use Rattle.header.specs.Judged.{judged, read_of}
+use Rattle.header.specs.Judged.{judged, header_in}
 use Rattle.outline.specs.declared.Outline.{Outline}
 use Rattle.outline.specs.Outline.{outline_of}
-use Rattle.rules.specs.declared.Checked.{Checked}
-use Rattle.rules.specs.declared.Checked.TheVariants.{Accepted, Refused}
 use Rattle.rules.specs.Rules.{Rule, refused_by, first, header_rules, record_rules}
 use Rattle.extents.specs.Extents.{points_end, vlr_bytes, vlr_rules, point_rule, later_rules, part_rules, outline_rules, records_of}
 use Rattle.file.specs.Rules.{readable, standard_size, rules_of, checked_of}
@@ -25,9 +25,9 @@ use Rattle.rules.specs.Records.{Run, records_hold}
 use Rattle.file.specs.Holds.{PartsHold, some, rules_hold}
 
 -- the number of records found whole that an answer carries
-abbrev pub found_of : Checked → ℕ
-found_of (Accepted n) = n
-found_of (Refused r k n) = n
+abbrev pub found_of : Result ℕ NotAccepted → ℕ
+found_of (Ok n) = n
+found_of (Err err) = err.records
 
 pub run-bytes : (x : Bool) (k : ℕ) (rest : List ℕ) → Run x k rest → 54 * k ≤ length rest
 run-bytes x zero rest run = omega arith
@@ -49,7 +49,7 @@ module _ (a most : ℕ) where
   sound_append (x ∷ xs) ys (f, p) q = (f, λ h. sound_append xs ys (p h) (λ all. q (h, all)))
 
   -- so the count of the first that fails does, or of what is answered where none fails
-  first_fits : (rs : List Rule) (done : Checked) → Sound rs → (All rs → Fits (found_of done)) → Fits (found_of (first rs done))
+  first_fits : (rs : List Rule) (done : Result ℕ NotAccepted) → Sound rs → (All rs → Fits (found_of done)) → Fits (found_of (first rs done))
   unfolding first
   first_fits [] done sound end = end tt
   first_fits (r ∷ rs) done (fits, sound) end = go r.holds refl (λ h. first_fits rs done (sound h) (λ all. end (h, all)))
@@ -158,6 +158,6 @@ pub count_fits : (a : ℕ) (s : List ℕ) → Fits a (length s) (found_of (check
 unfolding checked_of rules_of readable
 count_fits a s = first_fits a (length s) (rules_of a s) _ (go (judged s)) (λ all. all-fit _ _ a _ s (rules_hold a s all).parts)
   where
-    go : (j : HeaderAnswer) → Sound a (length s) (readable j ++ outline_rules (standard_size j) (read_of s).header.version.minor a (outline_of (read_of s).header) s)
-    go (answer.Whole n e) = sound _ _ a _ s
-    go (answer.Refused r) = ((omega arith, omega arith), λ never. absurd (subst T (sym never) tt))
+    go : (j : Result Whole Refusal) → Sound a (length s) (readable j ++ outline_rules (standard_size j) (header_in s).version.minor a (outline_of (header_in s)) s)
+    go (Ok whole) = sound _ _ a _ s
+    go (Err r) = ((omega arith, omega arith), λ never. absurd (subst T (sym never) tt))

@@ -1,4 +1,8 @@
 -- Rules 1 to 8 of document 01, with document 02's No. 11, as one conjunction, in ℕ and without an order; that the list of rules says the same.
+use Rattle.std.specs.Prelude.{Result, Ok, Err}
+use Rattle.header.specs.Whole.{whole_of}
+use Rattle.header.specs.declared.Whole.{Whole}
+use Rattle.refusal.specs.declared.Refusal.{Refusal}
 use Rattle.std.specs.Prelude.{ℕ, ◌+◌, ◌≤◌, ◌<◌, ◌≡◌, Bool, cond, ◌||◌, T, length, drop}
 use Rattle.std.proofs.Math.Path.{refl}
 use Rattle.std.proofs.Common.{sym, subst, pos_of_ne-zero, arith}
@@ -6,11 +10,9 @@ use Rattle.std.proofs.Math.Bool.{true, false}
 use mathlib.Core.List.{List, [], ◌∷◌, ◌++◌}
 use borrow.Author.Tests.{lt-ltb, le-leb, ltb-true, leb-true, eqb-true, eqb-false}
 use Rattle.std.proofs.Math.Dec.{eqb, leb}
-use Rattle.header.specs.declared.HeaderAnswer.{HeaderAnswer}
-use Rattle.header.specs.declared.HeaderAnswer.TheVariants as answer
 use Rattle.header.specs.Layout.{FileSignature, VersionMajor, VersionMinor, HeaderSize, fields_of, size}
 use Rattle.header.specs.Header.{part, number, lasf}
-use Rattle.header.specs.Judged.{padded_to, judged, read_of}
+use Rattle.header.specs.Judged.{padded_to, judged, header_in}
 use Rattle.header.specs.Laws.{accepted, whole, within}
 use Rattle.header.specs.Minor.{minor_read}
 use Rattle.outline.specs.declared.Outline.{Outline}
@@ -63,10 +65,10 @@ pub record HeaderHolds (s : List ℕ) : Type 0 where
 -- all eight, of the header that the bytes hold
 pub record Holds (allowance : ℕ) (s : List ℕ) : Type 0 where
   pub header : HeaderHolds s
-  pub parts : PartsHold (standard_in s) (number VersionMinor s) allowance (outline_of (read_of s).header) s
+  pub parts : PartsHold (standard_in s) (number VersionMinor s) allowance (outline_of (header_in s)) s
 
 -- rule 1 holds exactly where the header reader answers
-pub judged-holds : (s : List ℕ) {n e : ℕ} → judged s ≡ answer.Whole n e → HeaderHolds s × (n ≡ standard_in s)
+pub judged-holds : (s : List ℕ) {n e : ℕ} → judged s ≡ Ok (whole_of n e) → HeaderHolds s × (n ≡ standard_in s)
 judged-holds s p =
     let a = accepted s p in
     let w = within s p in (
@@ -82,7 +84,7 @@ judged-holds s p =
       a.block,
     )
 
-pub holds-judged : (s : List ℕ) → HeaderHolds s → judged s ≡ answer.Whole (standard_in s) (padded_to (standard_in s) (number HeaderSize s))
+pub holds-judged : (s : List ℕ) → HeaderHolds s → judged s ≡ Ok (whole_of (standard_in s) (padded_to (standard_in s) (number HeaderSize s)))
 holds-judged s h =
     whole s (record { signature = h.signature; major = h.major; minor = omega (arith, h.minor); block = refl; holds-block = h.standard-bytes; holds-field = h.field-bytes; end = refl })
 
@@ -179,11 +181,11 @@ pub rules_hold : (a : ℕ) (s : List ℕ) → All (rules_of a s) → Holds a s
 unfolding rules_of readable standard_size
 rules_hold a s = go (judged s) refl
   where
-    go : (j : HeaderAnswer) → judged s ≡ j → All (readable j ++ outline_rules (standard_size j) (read_of s).header.version.minor a (outline_of (read_of s).header) s) → Holds a s
-    go (answer.Whole n e) p all =
+    go : (j : Result Whole Refusal) → judged s ≡ j → All (readable j ++ outline_rules (standard_size j) (header_in s).version.minor a (outline_of (header_in s)) s) → Holds a s
+    go (Ok whole) p all =
         let h = judged-holds s p in
-        record { header = h.0; parts = rw (h.1, minor_read s p) at (parts_hold n (read_of s).header.version.minor a _ s all) }
-    go (answer.Refused r) p (false-holds, later) = absurd (subst T (sym false-holds) tt)
+        record { header = h.0; parts = rw (h.1, minor_read s p) at (parts_hold whole.block (header_in s).version.minor a _ s all) }
+    go (Err r) p (false-holds, later) = absurd (subst T (sym false-holds) tt)
 
 pub rules_all : (a : ℕ) (s : List ℕ) → Holds a s → All (rules_of a s)
 unfolding rules_of readable standard_size

@@ -1,22 +1,22 @@
 -- Changes that the file check does not see: of the points' bytes; and in a file without later records of the bytes behind its points, and of how
 -- many its points are.
+use Rattle.std.specs.Prelude.{Ok}
+use Rattle.header.specs.Whole.{whole_of}
 use Rattle.std.specs.Prelude.{ℕ, zero, suc, ◌+◌, ◌*◌, ◌-◌, ◌≤◌, ◌<◌, ◌≡◌, refl, true, false, List, length, take, drop}
 use Rattle.std.proofs.Common.{sym, subst, ◌∙◌, arith}
 use Rattle.std.proofs.Math.Path.{ap}
 use Rattle.store.specs.Elsewhere.{Elsewhere, same-before, same_behind}
-use Rattle.header.specs.declared.HeaderAnswer.TheVariants.{Whole}
-use Rattle.header.specs.declared.HeaderRead.{HeaderRead}
+use Rattle.header.specs.declared.Header.{Header}
 use Rattle.header.specs.Layout.{VersionMinor, HeaderSize}
 use Rattle.header.specs.Header.{number}
-use Rattle.header.specs.Judged.{judged, read_of}
+use Rattle.header.specs.Judged.{judged, read_of, header_in}
 use Rattle.header.specs.Window.{part-take}
 use Rattle.header.specs.Laws.{agreed}
-use Rattle.header.specs.Answers.{size_read, padded_field}
+use Rattle.header.specs.Answers.{size_read, header_same, padded_field}
 use Rattle.header.specs.Minor.{minor_read}
 use Rattle.header.specs.Theorems.{same_header}
 use Rattle.outline.specs.declared.Outline.{Outline}
 use Rattle.outline.specs.Outline.{outline_of, counting, header_size_is}
-use Rattle.rules.specs.declared.Checked.TheVariants.{Accepted}
 use Rattle.rules.specs.Records.{Run}
 use Rattle.extents.specs.Extents.{points_end, vlr_bytes, records_of}
 use Rattle.file.specs.Rules.{checked_of}
@@ -30,15 +30,15 @@ same-part k s t same n at inside =
     sym (part-take k t n at inside) ∙ ap (λ (l : List ℕ). take n (drop at l)) same ∙ part-take k s n at inside
 
 -- where t has the first k bytes of s, the header with its padding among them, its header is the same
-module _ (a : ℕ) (s t : List ℕ) (h : Holds a s) (k : ℕ) (past : (outline_of (read_of s).header).header_size ≤ k) (same : take k t ≡ take k s) where
+module _ (a : ℕ) (s t : List ℕ) (h : Holds a s) (k : ℕ) (past : (outline_of (header_in s)).header_size ≤ k) (same : take k t ≡ take k s) where
   abbrev size : ℕ
-  size = (outline_of (read_of s).header).header_size
+  size = (outline_of (header_in s)).header_size
 
-  whole : judged s ≡ Whole (standard_in s) size
+  whole : judged s ≡ Ok (whole_of (standard_in s) size)
   whole =
       let p = holds-judged s h.header in
-      let field : size ≡ number HeaderSize s = header_size_is (read_of s).header ∙ size_read s p in
-      p ∙ ap (Whole (standard_in s)) (padded_field (standard_in s) (number HeaderSize s) (omega (arith, h.parts.header-size)) ∙ sym field)
+      let field : size ≡ number HeaderSize s = header_size_is (header_in s) ∙ size_read s p in
+      p ∙ ap (λ (e : ℕ). Ok (whole_of (standard_in s) e)) (padded_field (standard_in s) (number HeaderSize s) (omega (arith, h.parts.header-size)) ∙ sym field)
 
   padded : take size s ≡ take size t
   padded = sym (same-part k s t same size 0 (omega arith))
@@ -49,12 +49,12 @@ module _ (a : ℕ) (s t : List ℕ) (h : Holds a s) (k : ℕ) (past : (outline_o
   pub front_read : read_of t ≡ read_of s
   front_read = same_header s t whole padded
 
-module _ (a : ℕ) (s t : List ℕ) (h : Holds a s) (none : (outline_of (read_of s).header).number_of_later_records ≡ 0) (long : length t ≡ length s) where
+module _ (a : ℕ) (s t : List ℕ) (h : Holds a s) (none : (outline_of (header_in s)).number_of_later_records ≡ 0) (long : length t ≡ length s) where
   abbrev o : Outline
-  o = outline_of (read_of s).header
+  o = outline_of (header_in s)
 
   -- where t has the same header but for the number of points, which end in it, and the same bytes before them, it is accepted too
-  module _ (m : ℕ) (judges : judged t ≡ judged s) (minor : (read_of t).header.version.minor ≡ (read_of s).header.version.minor) (outline : outline_of (read_of t).header ≡ counting m o) (vlrs : vlr_bytes o t ≡ vlr_bytes o s) (room : points_end (counting m o) ≤ length s) where
+  module _ (m : ℕ) (judges : judged t ≡ judged s) (minor : (header_in t).version.minor ≡ (header_in s).version.minor) (outline : outline_of (header_in t) ≡ counting m o) (vlrs : vlr_bytes o t ≡ vlr_bytes o s) (room : points_end (counting m o) ≤ length s) where
     parts_with_lem : PartsHold (standard_in s) (number VersionMinor s) a (counting m o) t
     parts_with_lem =
         let p = h.parts in
@@ -80,7 +80,7 @@ module _ (a : ℕ) (s t : List ℕ) (h : Holds a s) (none : (outline_of (read_of
         record { header = (judged-holds t q).0; parts = rw (minors, outline) parts_with_lem }
 
     -- with as many records
-    pub accepted_with : {n : ℕ} → checked_of a s ≡ Accepted n → checked_of a t ≡ Accepted n
+    pub accepted_with : {n : ℕ} → checked_of a s ≡ Ok n → checked_of a t ≡ Ok n
     unfolding records_of
     accepted_with e = (accepted a t).1 (holds_with, ((accepted a s).0 e).1 ∙ ap records_of (sym outline))
 
@@ -95,23 +95,29 @@ module _ (a : ℕ) (s t : List ℕ) (h : Holds a s) (none : (outline_of (read_of
     pub same_read : read_of t ≡ read_of s
     same_read = front_read a s t h (points_end o) past same
 
-    pub same_check : {n : ℕ} → checked_of a s ≡ Accepted n → checked_of a t ≡ Accepted n
+    pub same_header_in : header_in t ≡ header_in s
+    same_header_in = header_same s t same_read
+
+    pub same_check : {n : ℕ} → checked_of a s ≡ Ok n → checked_of a t ≡ Ok n
     same_check =
-        accepted_with o.number_of_point_records same-judged (ap (λ (r : HeaderRead). r.header.version.minor) same_read)
-        (ap (λ (r : HeaderRead). outline_of r.header) same_read)
+        accepted_with o.number_of_point_records same-judged (ap (λ (x : Header). x.version.minor) same_header_in)
+        (ap outline_of same_header_in)
         (same-part (points_end o) s t same (o.offset_to_point_data - o.header_size) o.header_size (omega (arith, h.parts.offset_after_header)))
         h.parts.points-within
 
 -- where t has the bytes of s before the points and behind them, whatever the points are, its header is the same, and so is the answer
-module _ (a : ℕ) (s t : List ℕ) (h : Holds a s) (e : Elsewhere (outline_of (read_of s).header).offset_to_point_data ((outline_of (read_of s).header).number_of_point_records * (outline_of (read_of s).header).point_data_record_length) s t) where
+module _ (a : ℕ) (s t : List ℕ) (h : Holds a s) (e : Elsewhere (outline_of (header_in s)).offset_to_point_data ((outline_of (header_in s)).number_of_point_records * (outline_of (header_in s)).point_data_record_length) s t) where
   abbrev u : Outline
-  u = outline_of (read_of s).header
+  u = outline_of (header_in s)
 
   pub points-judged : judged t ≡ judged s
   points-judged = front-judged a s t h u.offset_to_point_data h.parts.offset_after_header e.front
 
   pub points_read : read_of t ≡ read_of s
   points_read = front_read a s t h u.offset_to_point_data h.parts.offset_after_header e.front
+
+  pub points_header : header_in t ≡ header_in s
+  points_header = header_same s t points_read
 
   -- the later records, where there are any, lie behind the points
   run-same : (k : ℕ) → (0 < k → points_end u ≤ u.start_of_later_records) → Run true k (drop u.start_of_later_records s) → Run true k (drop u.start_of_later_records t)
@@ -139,11 +145,11 @@ module _ (a : ℕ) (s t : List ℕ) (h : Holds a s) (e : Elsewhere (outline_of (
   points-holds =
       let p = holds-judged s h.header in
       let q = points-judged ∙ p in
-      let minors : number VersionMinor t ≡ number VersionMinor s = sym (minor_read t q) ∙ ap (λ (r : HeaderRead). r.header.version.minor) points_read ∙ minor_read s p in
-      record { header = (judged-holds t q).0; parts = rw (minors, points_read) parts_same }
+      let minors : number VersionMinor t ≡ number VersionMinor s = sym (minor_read t q) ∙ ap (λ (x : Header). x.version.minor) points_header ∙ minor_read s p in
+      record { header = (judged-holds t q).0; parts = rw (minors, points_header) parts_same }
 
-  pub points-check : {n : ℕ} → checked_of a s ≡ Accepted n → checked_of a t ≡ Accepted n
-  points-check p = (accepted a t).1 (points-holds, ((accepted a s).0 p).1 ∙ ap (λ (r : HeaderRead). records_of (outline_of r.header)) (sym points_read))
+  pub points-check : {n : ℕ} → checked_of a s ≡ Ok n → checked_of a t ≡ Ok n
+  points-check p = (accepted a t).1 (points-holds, ((accepted a s).0 p).1 ∙ ap (λ (x : Header). records_of (outline_of x)) (sym points_header))
 
 -- another number of points does not change their format
 pub counting_format : (m : ℕ) (o : Outline) → point_format (counting m o) ≡ point_format o

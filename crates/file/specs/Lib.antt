@@ -9,5 +9,6 @@ pub mod Counts
 pub mod Room
 -- theorems
 pub mod Theorems
+pub mod Opened
 -- laws of accepted files, by the theorems
 pub mod Kept

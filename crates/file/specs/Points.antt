@@ -1,18 +1,17 @@
 -- The format of a file's points: the header's, with the header's record length.
+use Rattle.std.specs.Prelude.{Result, Ok, Err}
+use Rattle.refusal.specs.declared.Refusal.{Refusal}
 use Rattle.std.specs.Prelude.{ℕ, ◌-◌, ◌≤◌, ◌≡◌, false, List, leb}
 use Rattle.std.proofs.Math.Path.{ap}
 use Rattle.std.proofs.Common.{◌∙◌, arith}
 use Rattle.le.specs.Le.{Bytes}
 use Rattle.format.specs.declared.Format.{Format}
-use Rattle.format.specs.declared.NewFormat.{NewFormat}
-use Rattle.format.specs.declared.NewFormat.TheVariants as new
-use Rattle.format.specs.declared.FormatLen.TheVariants as len
 use Rattle.format.specs.Format.{plain, with_extra}
 use Rattle.format.specs.Codes.{coded, format_of}
 use Rattle.format.specs.Fields.{record_bytes, len_of}
 use Rattle.format.specs.Laws.{code-known, coded-extended}
 use Rattle.format.specs.Length.{len-told}
-use Rattle.header.specs.Judged.{read_of}
+use Rattle.header.specs.Judged.{header_in}
 use Rattle.header.specs.Answers.{record_length-fits, point_offset_fits}
 use Rattle.outline.specs.declared.Outline.{Outline}
 use Rattle.outline.specs.Outline.{outline_of, offset_is, record_length_is}
@@ -21,26 +20,26 @@ use Rattle.rules.specs.Laws.{filled-bytes}
 use Rattle.file.specs.Holds.{Holds}
 
 -- "Record length below the format's: 8. The rest is extra bytes." Where the code is refused, the format with no attribute.
-abbrev pub filled : ℕ → NewFormat → Format
-filled record_length (new.Is f) = with_extra (record_length - record_bytes f) f
-filled record_length (new.Refused r) = plain
+abbrev pub filled : ℕ → Result Format Refusal → Format
+filled record_length (Ok f) = with_extra (record_length - record_bytes f) f
+filled record_length (Err r) = plain
 
 -- the format of the header's code, in records of the header's record length
 unfoldable pub point_format : Outline → Format
 point_format o = filled o.point_data_record_length (format_of o.point_data_record_format)
 
 -- a record length is a number of two bytes
-pub length-fits : (s : List ℕ) → Bytes s → (outline_of (read_of s).header).point_data_record_length ≤ 65535
+pub length-fits : (s : List ℕ) → Bytes s → (outline_of (header_in s)).point_data_record_length ≤ 65535
 length-fits s bytes = rw record_length_is (record_length-fits s bytes)
 
 -- and a point offset one of four
-pub offset_fits : (s : List ℕ) → Bytes s → (outline_of (read_of s).header).offset_to_point_data ≤ 4294967295
+pub offset_fits : (s : List ℕ) → Bytes s → (outline_of (header_in s)).offset_to_point_data ≤ 4294967295
 offset_fits s bytes = rw offset_is (point_offset_fits s bytes)
 
 -- An accepted file, by rules 3 and 4:
 module _ (allowance : ℕ) (s : List ℕ) (h : Holds allowance s) where
   abbrev o : Outline
-  o = outline_of (read_of s).header
+  o = outline_of (header_in s)
 
   abbrev code : ℕ
   code = o.point_data_record_format
@@ -59,5 +58,5 @@ module _ (allowance : ℕ) (s : List ℕ) (h : Holds allowance s) where
   format_long = ap record_bytes format_is ∙ filled-bytes code o.point_data_record_length h.parts.record_length_lem
 
   -- which is never overlong.
-  pub format_len : Bytes s → len_of (point_format o) ≡ len.Is o.point_data_record_length
-  format_len bytes = len-told (point_format o) (rw format_long (length-fits s bytes)) ∙ ap len.Is format_long
+  pub format_len : Bytes s → len_of (point_format o) ≡ Ok o.point_data_record_length
+  format_len bytes = len-told (point_format o) (rw format_long (length-fits s bytes)) ∙ ap Ok format_long

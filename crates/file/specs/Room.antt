@@ -1,4 +1,7 @@
 -- The file check has no destination, and never refuses with 22.
+use Rattle.std.specs.Prelude.{Result, Ok, Err}
+use Rattle.rules.specs.NotAccepted.{not_accepted, found_same}
+use Rattle.header.specs.declared.Whole.{Whole}
 use Rattle.std.specs.Prelude.{ℕ, zero, suc, ◌≡◌, refl, Bool, true, false, cond, List, [], ◌∷◌, ◌++◌, eqb, drop}
 use Rattle.std.proofs.Common.{arith}
 use Rattle.refusal.specs.declared.Refusal.{Refusal}
@@ -7,13 +10,10 @@ use Rattle.refusal.specs.Table.{number_of}
 use Rattle.vlr.specs.declared.RecordLength.{RecordLength}
 use Rattle.vlr.specs.declared.RecordLength.TheVariants as kind
 use Rattle.vlr.specs.Vlr.{length_of, record_size}
-use Rattle.header.specs.declared.HeaderAnswer.{HeaderAnswer}
-use Rattle.header.specs.declared.HeaderAnswer.TheVariants as answer
-use Rattle.header.specs.Judged.{judged, read_of}
+use Rattle.header.specs.Judged.{judged, header_in}
 use Rattle.header.specs.Answers.{refused-only}
 use Rattle.outline.specs.declared.Outline.{Outline}
 use Rattle.outline.specs.Outline.{outline_of}
-use Rattle.rules.specs.declared.Checked.TheVariants as checked
 use Rattle.rules.specs.Rules.{Rule, refused_by, first, header_rules, too_far, no_length, record_rules}
 use Rattle.extents.specs.Extents.{start_refusal, vlr_rules, point_rule, later_rules, part_rules, outline_rules, vlr_bytes}
 use Rattle.file.specs.Rules.{readable, standard_size, rules_of, checked_of}
@@ -69,19 +69,19 @@ all : (allowance : ℕ) (s : List ℕ) → Each (rules_of allowance s)
 unfolding rules_of readable standard_size
 all allowance s = go (judged s) refl
   where
-    go : (j : HeaderAnswer) → judged s ≡ j → Each (readable j ++ outline_rules (standard_size j) (read_of s).header.version.minor allowance (outline_of (read_of s).header) s)
-    go (answer.Whole n e) p = outline n _ allowance _ s
-    go (answer.Refused r) p = (refused-only NotRoom (λ n is. omega arith) (λ n is. omega arith) (λ n is. omega arith) s p, outline 0 _ allowance _ s)
+    go : (j : Result Whole Refusal) → judged s ≡ j → Each (readable j ++ outline_rules (standard_size j) (header_in s).version.minor allowance (outline_of (header_in s)) s)
+    go (Ok whole) p = outline whole.block _ allowance _ s
+    go (Err r) p = (refused-only NotRoom (λ n is. omega arith) (λ n is. omega arith) (λ n is. omega arith) s p, outline 0 _ allowance _ s)
 
-first-not : (rs : List Rule) (n : ℕ) → Each rs → {r : Refusal} {k m : ℕ} → first rs (checked.Accepted n) ≡ checked.Refused r k m → NotRoom r
+first-not : (rs : List Rule) (n : ℕ) → Each rs → {r : Refusal} {k m : ℕ} → first rs (Ok n) ≡ Err (not_accepted r k m) → NotRoom r
 unfolding first
 first-not [] n each e = let z : ◌≡◌ {A = ℕ} 0 1 = cc in absurd (omega arith)
 first-not (x ∷ xs) n (own, each) {r} {k} {m} e = go x.holds e (first-not xs n each)
   where
-    go : (b : Bool) → cond b (first xs (checked.Accepted n)) (refused_by x) ≡ checked.Refused r k m → (first xs (checked.Accepted n) ≡ checked.Refused r k m → NotRoom r) → NotRoom r
+    go : (b : Bool) → cond b (first xs (Ok n)) (refused_by x) ≡ Err (not_accepted r k m) → (first xs (Ok n) ≡ Err (not_accepted r k m) → NotRoom r) → NotRoom r
     go true h later = later h
-    go false h later = let same : x.refusal ≡ r = cc in rw (← same) own
+    go false h later = let same : x.refusal ≡ r = (found_same h).0 in rw (← same) own
 
-pub check_never_22 : (allowance : ℕ) (s : List ℕ) {r : Refusal} {k m : ℕ} → checked_of allowance s ≡ checked.Refused r k m → number_of r ≡ 22 → ⊥
+pub check_never_22 : (allowance : ℕ) (s : List ℕ) {r : Refusal} {k m : ℕ} → checked_of allowance s ≡ Err (not_accepted r k m) → number_of r ≡ 22 → ⊥
 unfolding checked_of
 check_never_22 allowance s e = first-not (rules_of allowance s) _ (all allowance s) e

@@ -2,29 +2,39 @@
 #![tactic(auto)]
 
 ghost use Rattle.std.specs.Prelude.{◌≡◌, ◌-◌};
-ghost use Rattle.file.specs.Rules.{checked_of};
+ghost use Rattle.file.specs.Rules.{checked_of, opened_of};
 ghost use Rattle.file.specs.Points.{point_format};
 ghost use Rattle.format.specs.Fields.{record_bytes};
 
-use format::{Format, FormatLen, NewFormat};
-use header::{Header, HeaderAnswer};
+use format::Format;
+use header::Header;
 use outline::Outline;
-use rules::Checked;
+use rules::NotAccepted;
 
 // Whether the file is accepted, by rules 1 to 8. The time grows with the records walked and not with the points.
-pub fn check(file: &[u8], allowance: u64) -> Checked
+pub fn check(file: &[u8], allowance: u64) -> Result<u64, NotAccepted>
     ensures { result ≡ checked_of allowance file.now }
 {
-    let read = Header::read_from(file);
-    let header = read.header;
+    let header = open(file, allowance)?;
+    let o = Outline::of(header);
+    Ok(o.number_of_variable_length_records as u64 + o.number_of_later_records as u64)
+}
+
+// The header of an accepted file. Refused as `check` refuses.
+pub fn open(file: &[u8], allowance: u64) -> Result<Header, NotAccepted>
+    ensures { result ≡ opened_of allowance file.now }
+{
+    let header = Header::read_from(file)?;
     let version = header.version;
-    let answer = read.answer;
-    match answer {
-        HeaderAnswer::Whole { block, end: _ } => {
-            extents::check(file, allowance, block, version.minor, Outline::of(header))
-        }
-        HeaderAnswer::Refused(refusal) => rules::refused(refusal, 0),
-    }
+    let block = version.header_size()?;
+    extents::check(
+        file,
+        allowance,
+        block as usize,
+        version.minor,
+        Outline::of(header),
+    )?;
+    Ok(header)
 }
 
 // The format of a file's points, whose extra bytes fill the header's record length. Of a header that the check refuses:
@@ -32,7 +42,7 @@ pub fn check(file: &[u8], allowance: u64) -> Checked
 pub fn point_format(o: Outline) -> Format
     ensures { result ≡ point_format o }
 {
-    let NewFormat::Is(mut format) = Format::new(o.point_data_record_format) else {
+    let Ok(mut format) = Format::new(o.point_data_record_format) else {
         return Format::default();
     };
     let extra = beyond(format, o.point_data_record_length);
@@ -45,7 +55,7 @@ pub fn point_format(o: Outline) -> Format
 fn beyond(format: Format, record_length: u16) -> u16
     ensures { result ≡ record_length - record_bytes format }
 {
-    let FormatLen::Is(n) = format.len() else {
+    let Ok(n) = format.len() else {
         return 0;
     };
     if record_length < n {

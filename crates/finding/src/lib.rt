@@ -44,10 +44,7 @@ fn store(finding: Finding, out: &mut [u64], n: u64)
 pub fn plus(n: u64, more: u64) -> u64
     ensures { result ≡ plus n more }
 {
-    if 18446744073709551615 - n < more {
-        return 18446744073709551615;
-    }
-    n + more
+    n.saturating_add(more)
 }
 
 // Rule 5, a text of this width at this byte of the file.
@@ -114,6 +111,7 @@ fn tell_legacies(
     ensures { (result, out.new) ≡ told (legacies file.now extended large numbers.now part) (n, out.old) }
 {
     let mut n = n;
+    // Stays: the return itself is the place, in the file and in `numbers`.
     for i in 1..6 {
         n = tell_legacy_at(file, extended, large, numbers, part, i, out, n);
     }
@@ -147,6 +145,7 @@ fn tell_larges(file: &[u8], numbers: &[u64; 16], part: u64, out: &mut [u64], n: 
     ensures { (result, out.new) ≡ told (larges file.now numbers.now part) (n, out.old) }
 {
     let mut n = n;
+    // Stays: the return itself is the place, in the file and in `numbers`.
     for i in 1..16 {
         let at = 247 + 8 * i;
         let other = unlike(true, le::u64_at(file, at), numbers[i]);
@@ -159,10 +158,7 @@ fn tell_larges(file: &[u8], numbers: &[u64; 16], part: u64, out: &mut [u64], n: 
 fn unlike(compared: bool, stated: u64, there: u64) -> bool
     ensures { result ≡ unlike compared stated there }
 {
-    if !compared {
-        return false;
-    }
-    stated != there
+    compared && stated != there
 }
 
 // A finding of no point.

@@ -1,8 +1,8 @@
 -- The list of findings has what is broken, and nothing else.
+use Rattle.std.specs.Prelude.{Ok, ◌⊎◌, Bool, not, ◌||◌, ltb, leb, take, drop, get_or}
 use Prim.Native.Nat.{ℕ, zero, suc, ◌+◌, ◌*◌, ◌-◌, ◌≤◌, ◌<◌}
 use Rattle.std.proofs.Math.Path.{◌≡◌, refl, ap, sym}
 use Rattle.std.proofs.Common.{subst, ◌∙◌, inr}
-use Rattle.std.specs.Prelude.{◌⊎◌, Bool, not, ◌||◌, ltb, leb, take, drop, get_or}
 use Rattle.std.proofs.Math.Logic.{inl}
 use Rattle.std.proofs.Math.Bool.{true, false, cond}
 use mathlib.Core.List.{List, [], ◌∷◌, ◌++◌}
@@ -13,7 +13,6 @@ use Rattle.le.specs.Le.{num}
 use Rattle.header.specs.Layout.{VersionMinor}
 use Rattle.header.specs.Header.{number}
 use Rattle.outline.specs.declared.Outline.{Outline}
-use Rattle.rules.specs.declared.Checked.TheVariants as checked
 use Rattle.file.specs.Rules.{checked_of}
 use Rattle.cursor.specs.declared.Kind.{Kind}
 use Rattle.cursor.specs.declared.Kind.TheVariants.{Header, Vlr, Gap, Points, Evlr, Waveform}
@@ -162,7 +161,7 @@ other-kind : (x : Kind) → headers x ≡ 0 → x ≡ Header → ⊥
 other-kind x e is = let z : ◌≡◌ {A = ℕ} 0 1 = sym e ∙ ap headers is in omega arith
 
 -- of a file that is accepted
-module _ (allowance : ℕ) (s : List ℕ) {n : ℕ} (accepted : checked_of allowance s ≡ checked.Accepted n) (f : Finding) where
+module _ (allowance : ℕ) (s : List ℕ) {n : ℕ} (accepted : checked_of allowance s ≡ Ok n) (f : Finding) where
   abbrev o : Outline
   o = outline_in s
 

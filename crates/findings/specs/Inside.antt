@@ -1,5 +1,5 @@
 -- The findings of a part lie in it, ascending by byte and rule, and are no more than its bytes; so do those of all parts in the file.
-use Rattle.std.specs.Prelude.{ℕ, zero, suc, ◌+◌, ◌*◌, ◌-◌, ◌≤◌, ◌<◌, ◌≡◌, refl, Bool, cond, leb, length}
+use Rattle.std.specs.Prelude.{Ok, ℕ, zero, suc, ◌+◌, ◌*◌, ◌-◌, ◌≤◌, ◌<◌, ◌≡◌, refl, Bool, cond, leb, length}
 use Rattle.std.proofs.Math.Path.{ap, subst}
 use Rattle.std.proofs.Common.{sym, add-suc, suc-add, eqb-true, length-append}
 use Rattle.std.proofs.Math.Bool.{true, false}
@@ -15,7 +15,6 @@ use Rattle.header.specs.Layout.{VersionMinor, fields_of, size}
 use Rattle.header.specs.Header.{number}
 use Rattle.outline.specs.declared.Outline.{Outline}
 use Rattle.extents.specs.Extents.{points_end}
-use Rattle.rules.specs.declared.Checked.TheVariants as checked
 use Rattle.rules.specs.Laws.{format_bytes_lem}
 use Rattle.file.specs.Rules.{checked_of}
 use Rattle.file.specs.Holds.{standard_in, Holds}
@@ -140,7 +139,7 @@ module _ (s : List ℕ) where
       (inside_through (point_at s e at m part) at m (λ i. inside_one _ 4 part (i + 1) (at + i * m) (omega arith) (omega arith) (omega (arith, suc-mul i m))) 0 count))
 
 -- of a file that is accepted, in any part of its table
-module _ (allowance : ℕ) (s : List ℕ) {n : ℕ} (accepted : checked_of allowance s ≡ checked.Accepted n) where
+module _ (allowance : ℕ) (s : List ℕ) {n : ℕ} (accepted : checked_of allowance s ≡ Ok n) where
   abbrev o : Outline
   o = outline_in s
 

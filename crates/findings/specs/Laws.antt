@@ -1,6 +1,6 @@
 -- Laws of the points' findings, and of the parts': what the loops go by.
+use Rattle.std.specs.Prelude.{Some, None, Ok, ◌≡◌, Bool, true, false, cond, take, drop}
 use Prim.Native.Nat.{ℕ, zero, suc, ◌+◌, ◌*◌, ◌-◌, ◌≤◌, ◌<◌}
-use Rattle.std.specs.Prelude.{◌≡◌, Bool, true, false, cond, take, drop}
 use Rattle.std.proofs.Math.Path.{refl, ap, sym}
 use Rattle.std.proofs.Common.{subst, ◌∙◌, zero-mul, mul-le-mul_right, length-append}
 use mathlib.Core.List.{List, [], ◌∷◌}
@@ -11,7 +11,6 @@ use Rattle.std.proofs.Math.ListN.{length}
 use Rattle.std.proofs.Math.Seq.{drop-drop}
 use Rattle.format.specs.declared.Format.{Format}
 use Rattle.format.specs.Fields.{record_bytes}
-use Rattle.rules.specs.declared.Checked.TheVariants as checked
 use Rattle.file.specs.Rules.{checked_of}
 use Rattle.file.specs.Points.{format_extended, format_long}
 use Rattle.file.specs.Theorems.{accepted-holds}
@@ -70,7 +69,7 @@ told-empty [] w e = told_none w
 told-empty (f ∷ fs) w e = absurd (omega arith)
 
 -- of an accepted file the survey is what the header says
-pub survey_is : (allowance : ℕ) (s : List ℕ) {n : ℕ} → checked_of allowance s ≡ checked.Accepted n → survey_of allowance s ≡ survey_in s
+pub survey_is : (allowance : ℕ) (s : List ℕ) {n : ℕ} → checked_of allowance s ≡ Ok n → survey_of allowance s ≡ survey_in s
 unfolding survey_of
 survey_is allowance s e =
     let (f, at, count, is) = begins allowance s e in
@@ -91,11 +90,11 @@ module _ (s : List ℕ) (v : Survey) (c₀ : Cursor) (d₀ : List ℕ) where
   pub driving : Covers 0 (length s) (left_of s c₀) → Driving s v c₀ d₀ 0 d₀ 1 c₀
   driving h = record { counted = refl; so_far = refl; from = 0; covers = h; kept = refl }
 
-  module _ {n : ℕ} {d : List ℕ} {number : ℕ} {c : Cursor} (t : Driving s v c₀ d₀ n d number c) (step : Step) (is : step ≡ step_of s c) where
+  module _ {n : ℕ} {d : List ℕ} {number : ℕ} {c : Cursor} (t : Driving s v c₀ d₀ n d number c) where
     -- a step that has a part: the first of those left
-    module _ (has : step.has ≡ true) where
+    module _ (step : Step) (has : step_of s c ≡ Some step) where
       first : left_of s c ≡ step.part ∷ left_of s step.next
-      first = has_part s c (ap (λ (x : Step). x.has) (sym is) ∙ has) ∙ ap (λ (x : Step). x.part ∷ left_of s x.next) (sym is)
+      first = has_part s c has
 
       pub more : number + length (left_of s step.next) + 1 ≡ 1 + length (left_of s c₀)
       more = omega (arith, t.counted, ap length first)
@@ -120,8 +119,8 @@ module _ (s : List ℕ) (v : Survey) (c₀ : Cursor) (d₀ : List ℕ) where
           }
 
     -- one that has none: all are told
-    pub ended : step.has ≡ false → (n, d) ≡ told (found_from s v 1 (left_of s c₀)) (0, d₀)
+    pub ended : step_of s c ≡ None → (n, d) ≡ told (found_from s v 1 (left_of s c₀)) (0, d₀)
     unfolding found_from
     ended none =
-        let empty : left_of s c ≡ [] = has-none s c (ap (λ (x : Step). x.has) (sym is) ∙ none) in
+        let empty : left_of s c ≡ [] = has-none s c none in
         sym (told_none (n, d)) ∙ ap (λ (ps : List Part). told (found_from s v number ps) (n, d)) (sym empty) ∙ t.so_far

@@ -1,13 +1,13 @@
 -- What is promised of the findings of a file: document 02, No. 12. `Broken` says which rule is broken where.
-use Rattle.std.specs.Prelude.{ℕ, ◌*◌, ◌≤◌, ◌<◌, ◌≡◌, ◌↔◌, ◌⊎◌, List, ◌∷◌, ◌++◌, length, drop}
+use Rattle.std.specs.Prelude.{Ok, Err, ℕ, ◌*◌, ◌≤◌, ◌<◌, ◌≡◌, ◌↔◌, ◌⊎◌, List, ◌∷◌, ◌++◌, length, drop}
+use Rattle.rules.specs.NotAccepted.{not_accepted}
+use Rattle.refusal.specs.Refused.{at_record}
 use Rattle.std.proofs.Common.{arith}
 use Rattle.refusal.specs.declared.Refusal.{Refusal}
 use Rattle.refusal.specs.declared.Refusal.TheVariants.{NoRoom}
-use Rattle.rules.specs.declared.Checked.TheVariants as checked
 use Rattle.file.specs.Rules.{checked_of}
 use Rattle.finding.specs.declared.Finding.{Finding}
 use Rattle.finding.specs.Told.{all_numbers}
-use Rattle.findings.specs.declared.Answer.TheVariants.{Found, Refused}
 use Rattle.findings.specs.Found.{found_of}
 use Rattle.findings.specs.Answer.{findings_of}
 use Rattle.findings.specs.Broken.{Among, InOrder, Broken}
@@ -17,7 +17,7 @@ use Rattle.findings.specs.Order as order
 use Rattle.findings.specs.Refused as refused
 
 -- "For an accepted file":
-module _ (allowance : ℕ) (s : List ℕ) {n : ℕ} (accepted : checked_of allowance s ≡ checked.Accepted n) where
+module _ (allowance : ℕ) (s : List ℕ) {n : ℕ} (accepted : checked_of allowance s ≡ Ok n) where
   -- "and no other is given": a finding is one of the list exactly where its rule is broken there.
   pub exactly : (f : Finding) → Among f (found_of s) ↔ Broken s f
   exactly f = (told_broken allowance s accepted f, broken_told allowance s accepted f)
@@ -35,21 +35,21 @@ module _ (allowance : ℕ) (s : List ℕ) {n : ℕ} (accepted : checked_of allow
   few = omega (arith, (all_inside allowance s accepted).few)
 
   -- Where there is room, all are told, four numbers each, at the front of the buffer d, and what lies past them is as it was;
-  pub told : (d : List ℕ) → length (found_of s) * 4 ≤ length d → findings_of allowance s d ≡ (Found (length (found_of s)), all_numbers (found_of s) ++ drop (length (found_of s) * 4) d)
+  pub told : (d : List ℕ) → length (found_of s) * 4 ≤ length d → findings_of allowance s d ≡ (Ok (length (found_of s)), all_numbers (found_of s) ++ drop (length (found_of s) * 4) d)
   told = refused.with_room allowance s accepted
 
   -- "no room for the findings, giving how many there are".
-  pub refused-room : (d : List ℕ) → length d < length (found_of s) * 4 → findings_of allowance s d ≡ (Refused (NoRoom (length (found_of s))) 0, d)
+  pub refused-room : (d : List ℕ) → length d < length (found_of s) * 4 → findings_of allowance s d ≡ (Err (at_record (NoRoom (length (found_of s))) 0), d)
   refused-room = refused.without allowance s accepted
 
 -- "Refusals, in order: the file's own;
-pub refused_file : (allowance : ℕ) (s d : List ℕ) {r : Refusal} {k n : ℕ} → checked_of allowance s ≡ checked.Refused r k n → findings_of allowance s d ≡ (Refused r k, d)
+pub refused_file : (allowance : ℕ) (s d : List ℕ) {r : Refusal} {k n : ℕ} → checked_of allowance s ≡ Err (not_accepted r k n) → findings_of allowance s d ≡ (Err (at_record r k), d)
 refused_file = refused.by_file
 
 -- Refused exactly then, and a refusal leaves the buffer as it was.
 pub refused_exactly : (allowance : ℕ) (s d : List ℕ) {r : Refusal} {k : ℕ}
-    → ((findings_of allowance s d).0 ≡ Refused r k) ↔ (((n : ℕ) × (checked_of allowance s ≡ checked.Refused r k n)) ⊎ ((n : ℕ) × (checked_of allowance s ≡ checked.Accepted n) × (length d < length (found_of s) * 4) × (r ≡ NoRoom (length (found_of s))) × (k ≡ 0)))
+    → ((findings_of allowance s d).0 ≡ Err (at_record r k)) ↔ (((n : ℕ) × (checked_of allowance s ≡ Err (not_accepted r k n))) ⊎ ((n : ℕ) × (checked_of allowance s ≡ Ok n) × (length d < length (found_of s) * 4) × (r ≡ NoRoom (length (found_of s))) × (k ≡ 0)))
 refused_exactly allowance s d {r} {k} = refused.exactly allowance s d r k
 
-pub untouched : (allowance : ℕ) (s d : List ℕ) {r : Refusal} {k : ℕ} → (findings_of allowance s d).0 ≡ Refused r k → (findings_of allowance s d).1 ≡ d
+pub untouched : (allowance : ℕ) (s d : List ℕ) {r : Refusal} {k : ℕ} → (findings_of allowance s d).0 ≡ Err (at_record r k) → (findings_of allowance s d).1 ≡ d
 untouched allowance s d {r} {k} = refused.untouched allowance s d r k

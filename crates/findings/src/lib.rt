@@ -9,39 +9,25 @@ ghost use Rattle.finding.specs.Rules.{through};
 ghost use Rattle.findings.specs.Found.{texts_at, point_at, odd_points, found_in, found_from};
 ghost use Rattle.findings.specs.Answer.{findings_of, Surveyed, Begun};
 
-use cursor::{Cursor, Kind, Part, Started};
+use cursor::{Cursor, Kind, Part};
 use finding::Finding;
-use refusal::Refusal;
+use refusal::{Refusal, Refused};
 use returns::Survey;
-
-// How many findings there are, or why none are told, with the record number of the file check's refusal.
-#[derive(Clone, Copy)]
-pub enum Answer {
-    Found(u64),
-    Refused { refusal: Refusal, record: u64 },
-}
 
 // Every finding of the file, in file order, as four numbers each to the front of out, what lies past them staying; the answer is how many
 // there are. Refused with the file check's refusal; 22 with the number of findings where out has less than four entries for each. A
 // refusal leaves out as it was. The points are looked at once, and once more where some of them are findings.
-pub fn findings(file: &[u8], allowance: u64, out: &mut [u64]) -> Answer
+pub fn findings(file: &[u8], allowance: u64, out: &mut [u64]) -> Result<u64, Refused>
     ensures { (result, out.new) ≡ findings_of allowance file.now out.old }
 {
-    match cursor::start(file, allowance) {
-        Started::At(c) => {
-            let survey = returns::survey_of(file, allowance);
-            let n = tell_parts(file, survey, c, &mut out[..0]);
-            if ((out.len() / 4) as u64) < n {
-                return Answer::Refused {
-                    refusal: Refusal::NoRoom(n),
-                    record: 0,
-                };
-            }
-            tell_parts(file, survey, c, out);
-            Answer::Found(n)
-        }
-        Started::Refused { refusal, record } => Answer::Refused { refusal, record },
+    let c = cursor::start(file, allowance)?;
+    let survey = returns::survey_of(file, allowance);
+    let n = tell_parts(file, survey, c, &mut out[..0]);
+    if ((out.len() / 4) as u64) < n {
+        return Err(Refusal::NoRoom(n).into());
     }
+    tell_parts(file, survey, c, out);
+    Ok(n)
 }
 
 // The findings of all parts from the cursor on, which is at the first: how many there are, and those that out has room for.
@@ -52,15 +38,12 @@ fn tell_parts(file: &[u8], survey: Survey, c: Cursor, out: &mut [u64]) -> u64
     let mut n = 0;
     let mut number = 1;
     let mut c = c;
-    loop {
-        let step = cursor::next(file, c);
-        if !step.has {
-            return n;
-        }
+    while let Some(step) = cursor::next(file, c) {
         n = tell_part(file, survey, number, step.part, out, n);
         number += 1;
         c = step.next;
     }
+    n
 }
 
 // Those of one part, which is the entry of this number in the part table.
@@ -68,20 +51,17 @@ fn tell_part(file: &[u8], survey: Survey, number: u64, part: Part, out: &mut [u6
     requires { Surveyed file.now survey × (part.start ≤ length file.now) }
     ensures { (result, out.new) ≡ told (found_in file.now survey number part) (n, out.old) }
 {
-    let kind = part.kind;
     let start = part.start;
-    match kind {
+    match part.kind {
         Kind::Header => {
-            let returns = survey.returns;
-            let numbers = returns.numbers;
             let n = tell_texts(file, number, start, 26, 32, 58, out, n);
-            finding::tell_counters(file, survey.extended, &numbers, number, out, n)
+            let numbers = &survey.returns.numbers;
+            finding::tell_counters(file, survey.extended, numbers, number, out, n)
         }
         Kind::Vlr => tell_texts(file, number, start, 2, 16, 22, out, n),
         Kind::Gap => n,
         Kind::Points => tell_points(file, survey, number, out, n),
-        Kind::Evlr => tell_texts(file, number, start, 2, 16, 28, out, n),
-        Kind::Waveform => tell_texts(file, number, start, 2, 16, 28, out, n),
+        Kind::Evlr | Kind::Waveform => tell_texts(file, number, start, 2, 16, 28, out, n),
     }
 }
 
@@ -108,11 +88,11 @@ fn tell_points(file: &[u8], survey: Survey, number: u64, out: &mut [u64], n: u64
     requires { Surveyed file.now survey }
     ensures { (result, out.new) ≡ told (odd_points file.now survey number) (n, out.old) }
 {
-    let returns = survey.returns;
-    if out.len() == 0 {
-        return finding::plus(n, returns.odd);
+    let odd = survey.returns.odd;
+    if out.is_empty() {
+        return finding::plus(n, odd);
     }
-    if returns.odd == 0 {
+    if odd == 0 {
         return n;
     }
     tell_odd(
@@ -143,8 +123,7 @@ fn tell_odd(
 {
     let mut n = n;
     let mut at = first;
-    let mut i = 0;
-    while i < count {
+    for i in 0..count {
         let odd = returns::is_odd_in(&file[at..at + each], extended);
         n = finding::tell_if(
             odd,
@@ -158,7 +137,6 @@ fn tell_odd(
             n,
         );
         at += each;
-        i += 1;
     }
     n
 }

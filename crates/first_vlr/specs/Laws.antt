@@ -1,4 +1,10 @@
 -- Laws of the search: one VLR more, found, passed or cut off; and where there is no room for any.
+use Rattle.std.specs.Prelude.{Option, Some, None, Result, Ok, Err}
+use Rattle.rules.specs.NotAccepted.{not_accepted}
+use Rattle.refusal.specs.Refused.{at_record, refused_same}
+use Rattle.first_vlr.specs.Span.{span, span_same}
+use Rattle.first_vlr.specs.declared.Span.{Span}
+use Rattle.rules.specs.declared.NotAccepted.{NotAccepted}
 use Rattle.std.specs.Prelude.{ℕ, zero, suc, ◌+◌, ◌-◌, ◌≤◌, ◌<◌, Bool, true, cond, ◌&&◌, List, leb, length, take, drop}
 use Rattle.std.proofs.Math.Path.{◌≡◌, refl, ap}
 use Rattle.std.proofs.Common.{sym, ◌∙◌, length-take, length-drop, take_all}
@@ -7,18 +13,11 @@ use native.Mathlib.Omega.{arith}
 use borrow.Author.Tests.{le-leb, lt-leb, leb-true}
 use Rattle.std.proofs.Math.Seq.{drop-drop}
 use Rattle.refusal.specs.declared.Refusal.{Refusal}
-use Rattle.vlr.specs.declared.Extent.{Extent}
-use Rattle.vlr.specs.declared.Extent.TheVariants.{Bytes, Refused}
 use Rattle.vlr.specs.Vlr.{data_length, length_of, record_size, extent_of}
 use Rattle.vlr.specs.Laws.{Whole, accepted, record_size_lem}
 use Rattle.outline.specs.declared.Outline.{Outline}
-use Rattle.rules.specs.declared.Checked.{Checked}
-use Rattle.rules.specs.declared.Checked.TheVariants as checked
 use Rattle.file.specs.Rules.{checked_of}
 use Rattle.cursor.specs.Parts.{between, outline_in}
-use Rattle.first_vlr.specs.declared.Opened.TheVariants as opened
-use Rattle.first_vlr.specs.declared.FirstVlr.{FirstVlr}
-use Rattle.first_vlr.specs.declared.FirstVlr.TheVariants.{At, Nothing}
 use Rattle.first_vlr.specs.First.{opened_by, opened_of, is_of, data_at, first_by, first_from, first_of}
 
 -- the bytes from a place on
@@ -30,21 +29,21 @@ module _ (user : List ℕ) (id from : ℕ) (rest : List ℕ) (at left : ℕ) (so
   abbrev here : List ℕ
   here = drop at rest
 
-  abbrev search : ℕ → ℕ → FirstVlr
+  abbrev search : ℕ → ℕ → Option Span
   search k p = first_from user id k (from + p) (drop p rest)
 
   one : left ≡ suc (left - 1)
   one = omega arith
 
-  pub cut_off : {r : Refusal} → extent_of false here ≡ Refused r → search left at ≡ Nothing
+  pub cut_off : {r : Refusal} → extent_of false here ≡ Err r → search left at ≡ None
   unfolding first_from
   cut_off e = rw (one, e)
 
-  module _ {n : ℕ} (whole : extent_of false here ≡ Bytes n) where
+  module _ {n : ℕ} (whole : extent_of false here ≡ Ok n) where
     size : record_size false here ≡ n
     size = record_size_lem false here ∙ sym (accepted false here whole).size
 
-    pub is_it : is_of user id here ≡ true → search left at ≡ At (from + at + 54) (n - 54)
+    pub is_it : is_of user id here ≡ true → search left at ≡ Some (span (from + at + 54) (n - 54))
     unfolding first_from
     is_it e =
         let long : data_length (length_of false here) ≡ n - 54 = omega (arith, (accepted false here whole).size) in
@@ -58,11 +57,11 @@ module _ (user : List ℕ) (id from : ℕ) (rest : List ℕ) (at left : ℕ) (so
 
 -- where the point offset lies before the header's end or beyond the file there are none
 module _ (o : Outline) (user : List ℕ) (id : ℕ) (s : List ℕ) where
-  pub offset_before : o.offset_to_point_data < o.header_size → first_of o user id s ≡ Nothing
+  pub offset_before : o.offset_to_point_data < o.header_size → first_of o user id s ≡ None
   unfolding first_of
   offset_before h = rw (lt-leb _ _ h)
 
-  pub offset_beyond : length s < o.offset_to_point_data → first_of o user id s ≡ Nothing
+  pub offset_beyond : length s < o.offset_to_point_data → first_of o user id s ≡ None
   unfolding first_of
   offset_beyond h = rw (lt-leb _ _ h, and-false)
 
@@ -71,21 +70,21 @@ module _ (o : Outline) (user : List ℕ) (id : ℕ) (s : List ℕ) where
   in_between h g = rw (le-leb _ _ h, le-leb _ _ g)
 
 -- what is found lies in the bytes that are searched: the first VLR's, or those of the others,
-found_by_lem : (user : List ℕ) (id at : ℕ) (rest : List ℕ) (others : FirstVlr) {a l : ℕ} → (others ≡ At a l → a + l ≤ at + record_size false rest + length (drop (record_size false rest) rest)) → first_by user id at rest (extent_of false rest) others ≡ At a l → a + l ≤ at + length rest
+found_by_lem : (user : List ℕ) (id at : ℕ) (rest : List ℕ) (others : Option Span) {a l : ℕ} → (others ≡ Some (span a l) → a + l ≤ at + record_size false rest + length (drop (record_size false rest) rest)) → first_by user id at rest (extent_of false rest) others ≡ Some (span a l) → a + l ≤ at + length rest
 found_by_lem user id at rest others {a} {l} later = go (extent_of false rest) refl
   where
-    by : {m : ℕ} → Whole false rest m → (b : Bool) → cond b (data_at at rest) others ≡ At a l → a + l ≤ at + length rest
+    by : {m : ℕ} → Whole false rest m → (b : Bool) → cond b (data_at at rest) others ≡ Some (span a l) → a + l ≤ at + length rest
     by w true p =
-        let start : a ≡ at + 54 = cc in
-        let long : l ≡ data_length (length_of false rest) = cc in
+        let start : a ≡ at + 54 = sym (span_same p).0 in
+        let long : l ≡ data_length (length_of false rest) = sym (span_same p).1 in
         omega arith
     by w false p = omega (arith, later p, length-drop (record_size false rest) rest, record_size_lem false rest)
 
-    go : (x : Extent) → extent_of false rest ≡ x → first_by user id at rest x others ≡ At a l → a + l ≤ at + length rest
-    go (Bytes m) e p = by (accepted false rest e) (is_of user id rest) p
-    go (Refused r) e p = let z : ◌≡◌ {A = ℕ} 0 1 = cc in absurd (omega arith)
+    go : (x : Result ℕ Refusal) → extent_of false rest ≡ x → first_by user id at rest x others ≡ Some (span a l) → a + l ≤ at + length rest
+    go (Ok m) e p = by (accepted false rest e) (is_of user id rest) p
+    go (Err r) e p = let z : ◌≡◌ {A = ℕ} 0 1 = cc in absurd (omega arith)
 
-found_in : (user : List ℕ) (id n at : ℕ) (rest : List ℕ) {a l : ℕ} → first_from user id n at rest ≡ At a l → a + l ≤ at + length rest
+found_in : (user : List ℕ) (id n at : ℕ) (rest : List ℕ) {a l : ℕ} → first_from user id n at rest ≡ Some (span a l) → a + l ≤ at + length rest
 unfolding first_from
 found_in user id zero at rest e = let z : ◌≡◌ {A = ℕ} 0 1 = cc in absurd (omega arith)
 found_in user id (suc n) at rest e =
@@ -93,11 +92,11 @@ found_in user id (suc n) at rest e =
     found_by_lem user id at rest (first_from user id n (at + size) (drop size rest)) (found_in user id n (at + size) (drop size rest)) e
 
 -- and so in the file, before the points
-pub found_within : (o : Outline) (user : List ℕ) (id : ℕ) (s : List ℕ) {a l : ℕ} → first_of o user id s ≡ At a l → a + l ≤ length s
+pub found_within : (o : Outline) (user : List ℕ) (id : ℕ) (s : List ℕ) {a l : ℕ} → first_of o user id s ≡ Some (span a l) → a + l ≤ length s
 unfolding first_of
 found_within o user id s {a} {l} = go (leb o.header_size o.offset_to_point_data) (leb o.offset_to_point_data (length s)) refl refl
   where
-    go : (x y : Bool) → leb o.header_size o.offset_to_point_data ≡ x → leb o.offset_to_point_data (length s) ≡ y → cond (x && y) (first_from user id o.number_of_variable_length_records o.header_size (between o.header_size o.offset_to_point_data s)) Nothing ≡ At a l → a + l ≤ length s
+    go : (x y : Bool) → leb o.header_size o.offset_to_point_data ≡ x → leb o.offset_to_point_data (length s) ≡ y → cond (x && y) (first_from user id o.number_of_variable_length_records o.header_size (between o.header_size o.offset_to_point_data s)) None ≡ Some (span a l) → a + l ≤ length s
     go true true p q e =
         let h = leb-true o.header_size o.offset_to_point_data p in
         let g = leb-true o.offset_to_point_data (length s) q in
@@ -107,29 +106,29 @@ found_within o user id s {a} {l} = go (leb o.header_size o.offset_to_point_data)
 
 -- a file is opened exactly when the check accepts it
 module _ (allowance : ℕ) (s : List ℕ) where
-  pub opens : {n : ℕ} → checked_of allowance s ≡ checked.Accepted n → opened_of allowance s ≡ opened.File (outline_in s)
+  pub opens : {n : ℕ} → checked_of allowance s ≡ Ok n → opened_of allowance s ≡ Ok (outline_in s)
   unfolding opened_of
   opens e = rw e
 
-  pub opens_refused : {r : Refusal} {k n : ℕ} → checked_of allowance s ≡ checked.Refused r k n → opened_of allowance s ≡ opened.Refused r k
+  pub opens_refused : {r : Refusal} {k n : ℕ} → checked_of allowance s ≡ Err (not_accepted r k n) → opened_of allowance s ≡ Err (at_record r k)
   unfolding opened_of
   opens_refused e = rw e
 
-  pub opened_file_lem : {o : Outline} → opened_of allowance s ≡ opened.File o → (n : ℕ) × (checked_of allowance s ≡ checked.Accepted n) × (o ≡ outline_in s)
+  pub opened_file_lem : {o : Outline} → opened_of allowance s ≡ Ok o → (n : ℕ) × (checked_of allowance s ≡ Ok n) × (o ≡ outline_in s)
   unfolding opened_of
   opened_file_lem {o} = go (checked_of allowance s) refl
     where
-      go : (x : Checked) → checked_of allowance s ≡ x → opened_by (outline_in s) x ≡ opened.File o → (n : ℕ) × (checked_of allowance s ≡ checked.Accepted n) × (o ≡ outline_in s)
-      go (checked.Accepted n) e p = (n, e, (cc))
-      go (checked.Refused r k n) e p = let z : ◌≡◌ {A = ℕ} 0 1 = cc in absurd (omega arith)
+      go : (x : Result ℕ NotAccepted) → checked_of allowance s ≡ x → opened_by (outline_in s) x ≡ Ok o → (n : ℕ) × (checked_of allowance s ≡ Ok n) × (o ≡ outline_in s)
+      go (Ok n) e p = (n, e, (cc))
+      go (Err err) e p = let z : ◌≡◌ {A = ℕ} 0 1 = cc in absurd (omega arith)
 
-  pub opened_refused : {r : Refusal} {k : ℕ} → opened_of allowance s ≡ opened.Refused r k → (n : ℕ) × (checked_of allowance s ≡ checked.Refused r k n)
+  pub opened_refused : {r : Refusal} {k : ℕ} → opened_of allowance s ≡ Err (at_record r k) → (n : ℕ) × (checked_of allowance s ≡ Err (not_accepted r k n))
   unfolding opened_of
   opened_refused {r} {k} = go (checked_of allowance s) refl
     where
-      go : (x : Checked) → checked_of allowance s ≡ x → opened_by (outline_in s) x ≡ opened.Refused r k → (n : ℕ) × (checked_of allowance s ≡ checked.Refused r k n)
-      go (checked.Accepted n) e p = let z : ◌≡◌ {A = ℕ} 0 1 = cc in absurd (omega arith)
-      go (checked.Refused q j n) e p =
-          let refusal : q ≡ r = cc in
-          let number : j ≡ k = cc in
-          (n, e ∙ rw (refusal, number))
+      go : (x : Result ℕ NotAccepted) → checked_of allowance s ≡ x → opened_by (outline_in s) x ≡ Err (at_record r k) → (n : ℕ) × (checked_of allowance s ≡ Err (not_accepted r k n))
+      go (Ok n) e p = let z : ◌≡◌ {A = ℕ} 0 1 = cc in absurd (omega arith)
+      go (Err err) e p =
+          let refusal : err.refusal ≡ r = (refused_same p).0 in
+          let number : err.«record» ≡ k = (refused_same p).1 in
+          (err.records, e ∙ rw (refusal, number))

@@ -1,4 +1,5 @@
 -- definitions
+pub mod Span
 pub mod First
 -- laws
 pub mod Laws

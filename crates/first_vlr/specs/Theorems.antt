@@ -1,4 +1,7 @@
 -- Which VLR is the first: document 02, No. 8, "The first such VLR counts", and No. 14, "first VLRs".
+use Rattle.std.specs.Prelude.{Option, Some, None, Ok}
+use Rattle.first_vlr.specs.Span.{span}
+use Rattle.first_vlr.specs.declared.Span.{Span}
 use Prim.Native.Nat.{ℕ, zero, suc, ◌+◌, ◌<◌}
 use Rattle.std.specs.Prelude.{◌≡◌, refl, Bool, true, cond, drop, get_or}
 use Rattle.std.proofs.Common.{sym, subst, arith}
@@ -9,7 +12,6 @@ use Rattle.vlr.specs.Layout.{head_size}
 use Rattle.vlr.specs.Vlr.{data_length, length_of, record_size}
 use Rattle.vlr.specs.Laws.{all_there}
 use Rattle.outline.specs.declared.Outline.{Outline}
-use Rattle.rules.specs.declared.Checked.TheVariants as checked
 use Rattle.rules.specs.Records.{Run}
 use Rattle.file.specs.Rules.{checked_of}
 use Rattle.cursor.specs.declared.Kind.TheVariants.{Vlr}
@@ -18,8 +20,6 @@ use Rattle.cursor.specs.Parts.{part, between, outline_in, record_parts}
 use Rattle.cursor.specs.Laws.{drop-between}
 use Rattle.cursor.specs.Accepted.{laid}
 use Rattle.file.specs.Theorems.{accepted-holds}
-use Rattle.first_vlr.specs.declared.FirstVlr.{FirstVlr}
-use Rattle.first_vlr.specs.declared.FirstVlr.TheVariants.{At, Nothing}
 use Rattle.first_vlr.specs.First.{is_of, data_at, first_from, first_of}
 use Rattle.first_vlr.specs.Laws.{in_between}
 
@@ -47,25 +47,25 @@ module _ (user : List ℕ) (id to : ℕ) (s : List ℕ) where
     pub none_before : (j : ℕ) → j < k → has (nth_at j at to s) ≡ false
 
   -- what the search answers is the data of the first that has them, and nothing exactly where none has
-  abbrev Answers : ℕ → ℕ → FirstVlr → Type 0
-  Answers n at (At start l) = (k : ℕ) × FirstAt n at k × (let p = nth_at k at to s in (start ≡ p + head_size false) × (l ≡ data_length (length_of false (between p to s))))
-  Answers n at Nothing = (k : ℕ) → k < n → has (nth_at k at to s) ≡ false
+  abbrev Answers : ℕ → ℕ → Option Span → Type 0
+  Answers n at (Some at2) = (k : ℕ) × FirstAt n at k × (let p = nth_at k at to s in (at2.start ≡ p + head_size false) × (at2.length ≡ data_length (length_of false (between p to s))))
+  Answers n at None = (k : ℕ) → k < n → has (nth_at k at to s) ≡ false
 
   -- one VLR more before those that are searched
-  passed : (n at : ℕ) → has at ≡ false → (x : FirstVlr) → Answers n (at + record_size false (between at to s)) x → Answers (suc n) at x
-  passed n at other (At start l) (k, f, is) =
+  passed : (n at : ℕ) → has at ≡ false → (x : Option Span) → Answers n (at + record_size false (between at to s)) x → Answers (suc n) at x
+  passed n at other (Some at2) (k, f, is) =
       (suc k, record { one_of = omega (arith, f.one_of); it_has = f.it_has; none_before = before }, is)
     where
       before : (j : ℕ) → j < suc k → has (nth_at j at to s) ≡ false
       before zero h = other
       before (suc j) h = f.none_before j (omega arith)
-  passed n at other Nothing none = each
+  passed n at other None none = each
     where
       each : (k : ℕ) → k < suc n → has (nth_at k at to s) ≡ false
       each zero h = other
       each (suc k) h = none k (omega arith)
 
-  here : (n at : ℕ) (others : FirstVlr) → Answers n (at + record_size false (between at to s)) others → (b : Bool) → has at ≡ b → Answers (suc n) at (cond b (data_at at (between at to s)) others)
+  here : (n at : ℕ) (others : Option Span) → Answers n (at + record_size false (between at to s)) others → (b : Bool) → has at ≡ b → Answers (suc n) at (cond b (data_at at (between at to s)) others)
   here n at others later true e = (0, record { one_of = omega arith; it_has = e; none_before = λ j h. absurd (omega arith) }, (refl, refl))
   here n at others later false e = passed n at e others later
 
@@ -79,7 +79,7 @@ module _ (user : List ℕ) (id to : ℕ) (s : List ℕ) where
       let later = answers n (at + m) (subst (Run false n) cut run) in
       rw (all_there false b whole) (here n at (first_from user id n (at + m) (drop m b)) (subst (λ (l : List ℕ). Answers n (at + m) (first_from user id n (at + m) l)) (sym cut) later) (has at) refl)
 
-module _ (allowance : ℕ) (user : List ℕ) (id : ℕ) (s : List ℕ) {records : ℕ} (accepted : checked_of allowance s ≡ checked.Accepted records) where
+module _ (allowance : ℕ) (user : List ℕ) (id : ℕ) (s : List ℕ) {records : ℕ} (accepted : checked_of allowance s ≡ Ok records) where
   abbrev o : Outline
   o = outline_in s
 
@@ -92,11 +92,11 @@ module _ (allowance : ℕ) (user : List ℕ) (id : ℕ) (s : List ℕ) {records 
 
   -- "The first such VLR counts": what is found in an accepted file is the data of one of its VLRs, which has the user id and the record id;
   -- none before it has them.
-  pub found_is_first : {start l : ℕ} → first_of o user id s ≡ At start l
+  pub found_is_first : {start l : ℕ} → first_of o user id s ≡ Some (span start l)
       → (k : ℕ) × FirstAt user id o.offset_to_point_data s o.number_of_variable_length_records o.header_size k
       × (let p = nth_at k o.header_size o.offset_to_point_data s in (start ≡ p + head_size false) × (l ≡ data_length (length_of false (between p o.offset_to_point_data s))))
   found_is_first e = subst (Answers user id o.offset_to_point_data s o.number_of_variable_length_records o.header_size) e answered
 
   -- "no such VLR": and nothing is found only where none of them has; an EVLR is never looked at.
-  pub nothing-has : first_of o user id s ≡ Nothing → (k : ℕ) → k < o.number_of_variable_length_records → has user id o.offset_to_point_data s (nth_at k o.header_size o.offset_to_point_data s) ≡ false
+  pub nothing-has : first_of o user id s ≡ None → (k : ℕ) → k < o.number_of_variable_length_records → has user id o.offset_to_point_data s (nth_at k o.header_size o.offset_to_point_data s) ≡ false
   nothing-has e = subst (Answers user id o.offset_to_point_data s o.number_of_variable_length_records o.header_size) e answered

@@ -1,10 +1,10 @@
 -- Flags carried between two bytes and three, as the Rust does it (document 01, "Old flags" and refusals 15 to 18).
+use Rattle.std.specs.Prelude.{Result, Ok, Err}
+use Rattle.refusal.specs.declared.Refusal.{Refusal}
 use Rattle.std.specs.Prelude.{ℕ, ◌+◌, ◌*◌, ◌/◌, ◌%◌, Bool, true, false, cond, ◌&&◌, eqb, ltb}
 use Rattle.refusal.specs.declared.Refusal.TheVariants.{ReturnNumber, NumberOfReturns, Class, Channel}
 use Rattle.flags.specs.declared.Flags.{Flags}
 use Rattle.flags.specs.declared.Flags.TheVariants.{TwoByte, ThreeByte}
-use Rattle.flags.specs.declared.TwoBytes.{TwoBytes}
-use Rattle.flags.specs.declared.TwoBytes.TheVariants.{Bytes, Refused}
 use Rattle.flags.specs.declared.ThreeBytes.{ThreeBytes}
 use Rattle.flags.specs.Readings.{return_number_of, number_of_returns_of, direction_bit, edge_of, class_of, synthetic_of, key_point_of, withheld_of, overlap_of, channel_of}
 
@@ -31,20 +31,22 @@ new_second synthetic key withheld overlap channel direction edge =
     flag synthetic + 2 * flag key + 4 * flag withheld + 8 * flag overlap + 16 * channel + 64 * flag direction + 128 * flag edge
 
 -- the old bytes that say what f says, a set overlap flag taking the place of the class as class 12
-unfoldable pub old_bytes_of : Flags → TwoBytes
+unfoldable pub old_bytes_of : Flags → Result (ℕ × ℕ) Refusal
 old_bytes_of f =
-    Bytes (old_first (return_number_of f) (number_of_returns_of f) (direction_bit f) (edge_of f))
-    (old_second (cond (overlap_of f) 12 (class_of f)) (synthetic_of f) (key_point_of f) (withheld_of f))
+    Ok (
+      old_first (return_number_of f) (number_of_returns_of f) (direction_bit f) (edge_of f),
+      old_second (cond (overlap_of f) 12 (class_of f)) (synthetic_of f) (key_point_of f) (withheld_of f),
+    )
 
 -- old flags as they are; of extended ones the first of the four that does not fit, else the old bytes
-unfoldable pub two_bytes_of : Flags → TwoBytes
-two_bytes_of (TwoByte a b) = Bytes a b
+unfoldable pub two_bytes_of : Flags → Result (ℕ × ℕ) Refusal
+two_bytes_of (TwoByte a b) = Ok (a, b)
 two_bytes_of (ThreeByte a b c) =
     let f = ThreeByte a b c in
-    cond (ltb 7 (return_number_of f)) (Refused (ReturnNumber (return_number_of f)))
-    (cond (ltb 7 (number_of_returns_of f)) (Refused (NumberOfReturns (number_of_returns_of f)))
-    (cond (ltb 31 (class_of f)) (Refused (Class (class_of f)))
-    (cond (ltb 0 (channel_of f)) (Refused (Channel (channel_of f))) (old_bytes_of f))))
+    cond (ltb 7 (return_number_of f)) (Err (ReturnNumber (return_number_of f)))
+    (cond (ltb 7 (number_of_returns_of f)) (Err (NumberOfReturns (number_of_returns_of f)))
+    (cond (ltb 31 (class_of f)) (Err (Class (class_of f)))
+    (cond (ltb 0 (channel_of f)) (Err (Channel (channel_of f))) (old_bytes_of f))))
 
 -- extended flags as they are; old ones lose direction and edge, and their byte two becomes the class whole
 unfoldable pub three_bytes_of : Flags → ThreeBytes

@@ -5,6 +5,9 @@
 ghost use Rattle.std.specs.Prelude.{◌≡◌, cond};
 ghost use Rattle.flags.specs.Readings.{bit, return_number_of, number_of_returns_of, direction_of, synthetic_of, key_point_of, withheld_of, overlap_of, channel_of, edge_of, class_of};
 ghost use Rattle.flags.specs.Bytes.{two_bytes_of, three_bytes_of, cleared_of, same_of};
+ghost use Rattle.flags.specs.declared.Flags.TheVariants.{TwoByte};
+ghost use Rattle.flags.specs.Same.{same-equivalence};
+ghost use Rattle.std.specs.Cmp.{partial_equiv_from_equiv};
 
 use refusal::Refusal;
 
@@ -27,18 +30,11 @@ pub enum ScanDirection {
 }
 
 // The bytes of three-byte flags.
-#[derive(Clone, Copy)]
+#[derive(Clone, Copy, PartialEq, Eq)]
 pub struct ThreeBytes {
     pub a: u8,
     pub b: u8,
     pub c: u8,
-}
-
-// The bytes of two-byte flags, or why there are none.
-#[derive(Clone, Copy)]
-pub enum TwoBytes {
-    Bytes(u8, u8),
-    Refused(Refusal),
 }
 
 impl Flags {
@@ -145,11 +141,11 @@ impl Flags {
 
     // The two bytes. Of three-byte flags the first of return number, number of returns, class and channel that does not
     // fit is refused; a set overlap flag becomes class 12, whatever the class was, as in the Rust.
-    pub fn to_two_bytes(self) -> TwoBytes
+    pub fn to_two_bytes(self) -> Result<(u8, u8), Refusal>
         ensures { result ≡ two_bytes_of self }
     {
         match self {
-            Flags::TwoByte(a, b) => TwoBytes::Bytes(a, b),
+            Flags::TwoByte(a, b) => Ok((a, b)),
             Flags::ThreeByte(a, b, c) => two_bytes(a, b, c),
         }
     }
@@ -178,26 +174,28 @@ impl Flags {
             Flags::ThreeByte(a, b, c) => cleared_three(a, b, c),
         }
     }
+}
 
-    // Whether the three bytes are the same, as the Rust compares flags.
-    pub fn eq(self, other: Flags) -> bool
-        ensures { result ≡ same_of self other }
-    {
-        let x = self.to_three_bytes();
-        let y = other.to_three_bytes();
-        if x.a != y.a {
-            return false;
-        }
-        if x.b != y.b {
-            return false;
-        }
-        x.c == y.c
+// Flags are equal where their three bytes are, as the Rust compares them.
+impl PartialEq for Flags {
+    ghost eq = { same_of };
+
+    ghost laws = { partial_equiv_from_equiv same-equivalence };
+
+    fn eq(&self, other: &Flags) -> bool {
+        self.to_three_bytes() == other.to_three_bytes()
     }
+}
 
-    // Two zero bytes.
-    pub fn default() -> Flags
-        ensures { result ≡ Flags.TwoByte 0 0 }
-    {
+impl Eq for Flags {
+    ghost laws = { same-equivalence };
+}
+
+// Two zero bytes.
+impl Default for Flags {
+    ghost is_default = { λ f. f ≡ TwoByte 0 0 };
+
+    fn default() -> Flags {
         Flags::TwoByte(0, 0)
     }
 }
@@ -214,30 +212,30 @@ fn direction(n: u8) -> ScanDirection
 }
 
 // The two bytes of three-byte flags, or the first refusal.
-fn two_bytes(a: u8, b: u8, c: u8) -> TwoBytes
+fn two_bytes(a: u8, b: u8, c: u8) -> Result<(u8, u8), Refusal>
     ensures { result ≡ two_bytes_of (Flags.ThreeByte a b c) }
 {
     let return_number = a % 16;
     if return_number > 7 {
-        return TwoBytes::Refused(Refusal::ReturnNumber(return_number));
+        return Err(Refusal::ReturnNumber(return_number));
     }
     let number_of_returns = a / 16 % 16;
     if number_of_returns > 7 {
-        return TwoBytes::Refused(Refusal::NumberOfReturns(number_of_returns));
+        return Err(Refusal::NumberOfReturns(number_of_returns));
     }
     if c > 31 {
-        return TwoBytes::Refused(Refusal::Class(c));
+        return Err(Refusal::Class(c));
     }
     let scanner_channel = b / 16 % 4;
     if scanner_channel > 0 {
-        return TwoBytes::Refused(Refusal::Channel(scanner_channel));
+        return Err(Refusal::Channel(scanner_channel));
     }
     // Direction and edge keep their places, bits 6 and 7; synthetic, key point and withheld move from bits 0 to 2 up to bits 5 to 7.
     let first = b / 64 * 64 + number_of_returns * 8 + return_number;
     if b / 8 % 2 == 1 {
-        return TwoBytes::Bytes(first, b % 8 * 32 + OVERLAP_CLASSIFICATION_CODE);
+        return Ok((first, b % 8 * 32 + OVERLAP_CLASSIFICATION_CODE));
     }
-    TwoBytes::Bytes(first, b % 8 * 32 + c)
+    Ok((first, b % 8 * 32 + c))
 }
 
 // Class 12 becomes 1, and the three flags above it stay.

@@ -1,8 +1,8 @@
 -- The attributes that each code stands for, and the records of a code's format.
+use Rattle.std.specs.Prelude.{Ok}
 use Rattle.std.specs.Prelude.{ℕ, ◌-◌, ◌≤◌, ◌≡◌, refl, Bool, true, false}
 use Rattle.std.proofs.Common.{arith}
 use Rattle.format.specs.declared.Format.{Format}
-use Rattle.format.specs.declared.FormatLen.TheVariants.{Is}
 use Rattle.format.specs.Format.{with_extra}
 use Rattle.format.specs.Codes.{is_in, coded}
 use Rattle.format.specs.Fields.{record_bytes, len_of}
@@ -46,7 +46,7 @@ module _ (n : ℕ) (compressed : Bool) where
       let f = coded n compressed in
       (omega (arith, record_sum f), omega (arith, record_end f, fixed_le f))
 
-  pub coded-len : len_of (coded n compressed) ≡ Is (record_bytes (coded n compressed))
+  pub coded-len : len_of (coded n compressed) ≡ Ok (record_bytes (coded n compressed))
   coded-len = len-told (coded n compressed) (omega (arith, coded-bytes.1))
 
   -- and with the rest of a longer record as extra bytes it has that record's length

@@ -1,12 +1,12 @@
 -- The fields of a point record in their order, and their sizes: LAS 1.4 R15, point data record formats 0 to 10; document 01, "Order".
+use Rattle.std.specs.Prelude.{Result, Ok, Err}
+use Rattle.refusal.specs.declared.Refusal.{Refusal}
 use Rattle.std.specs.Prelude.{ℕ, ◌+◌, Bool, true, false, cond, List, [], ◌∷◌, ◌++◌, ltb}
 use Rattle.refusal.specs.declared.Refusal.TheVariants.{RecordLength}
 use Rattle.fields.specs.Table.{total}
 use Rattle.format.specs.declared.Format.{Format}
 use Rattle.format.specs.declared.Field.{Field}
 use Rattle.format.specs.declared.Field.TheVariants.{X, Y, Z, Intensity, Flags, UserData, ScanAngle, PointSourceId, GpsTime, Color, Nir, Waveform, ExtraBytes}
-use Rattle.format.specs.declared.FormatLen.{FormatLen}
-use Rattle.format.specs.declared.FormatLen.TheVariants.{Is, Refused}
 
 -- a field that a format has or lacks
 abbrev pub only : Bool → Field → List Field
@@ -81,5 +81,5 @@ unfoldable pub record_bytes : Format → ℕ
 record_bytes f = total (size_of f) (fields_of f)
 
 -- the length as a u16, or refusal 8 with the true length
-unfoldable pub len_of : Format → FormatLen
-len_of f = cond (ltb 65535 (record_bytes f)) (Refused (RecordLength (record_bytes f))) (Is (record_bytes f))
+unfoldable pub len_of : Format → Result ℕ Refusal
+len_of f = cond (ltb 65535 (record_bytes f)) (Err (RecordLength (record_bytes f))) (Ok (record_bytes f))

@@ -1,4 +1,5 @@
 -- Laws of codes and of the field table.
+use Rattle.std.specs.Prelude.{Ok}
 use Rattle.std.specs.Prelude.{ℕ, ◌+◌, ◌≤◌, ◌<◌, ◌≡◌, Bool, true, false, cond, List, [], ◌∷◌, ◌++◌, leb}
 use Rattle.std.proofs.Math.Path.{refl}
 use Rattle.std.proofs.Common.{sym, ◌∙◌, add-zero, arith, lt-ltb}
@@ -7,14 +8,12 @@ use Rattle.fields.specs.Total.{total-append}
 use Rattle.format.specs.declared.Format.{Format}
 use Rattle.format.specs.declared.Field.{Field}
 use Rattle.format.specs.declared.Field.TheVariants.{UserData, ScanAngle, PointSourceId, GpsTime, Color, Nir, Waveform, ExtraBytes}
-use Rattle.format.specs.declared.FormatLen.TheVariants.{Is}
-use Rattle.format.specs.declared.NewFormat.TheVariants as new
 use Rattle.format.specs.Codes.{coded, format_of}
 pub use Rattle.format.specs.Length.{len_is}
 use Rattle.format.specs.Fields.{only, rest_of, fields_of, size_of, place_of, record_bytes, len_of}
 
 -- a code of the standard has a format
-pub code-known : (n : ℕ) → n < 11 → format_of n ≡ new.Is (coded n false)
+pub code-known : (n : ℕ) → n < 11 → format_of n ≡ Ok (coded n false)
 unfolding format_of
 code-known n h = rw (lt-ltb _ _ h)
 
@@ -54,7 +53,7 @@ module _ (f : Format) where
   record_sum = simp (total-append, total-only) (omega (arith, middle f.is_extended refl))
 
   -- so a record has bytes
-  pub some_bytes : (n : ℕ) → len_of f ≡ Is n → 0 < n
+  pub some_bytes : (n : ℕ) → len_of f ≡ Ok n → 0 < n
   some_bytes n e = omega (arith, len_is f n e, record_sum)
 
   -- a field that may be missing stands at its place where it is there

@@ -1,8 +1,8 @@
 -- What the definitions add up to for the eleven formats of the standard.
+use Rattle.std.specs.Prelude.{Ok}
 use Rattle.std.specs.Prelude.{ℕ, ◌≡◌, refl, false, [], ◌∷◌, map}
 use Rattle.fields.specs.Table.{Follow}
 use Rattle.format.specs.declared.Format.{Format}
-use Rattle.format.specs.declared.FormatCode.TheVariants.{Is}
 use Rattle.format.specs.Fields.{fields_of, size_of, place_of, record_bytes}
 use Rattle.format.specs.Laws.{fields_follow}
 use Rattle.format.specs.Codes.{is_in, coded, first_with, code_by, code_of, codes}
@@ -13,7 +13,7 @@ unfolding is_in coded fields_of record_bytes
 record_sizes = refl
 
 -- each format's code is its own: no two have the same attributes
-pub codes_back : map (λ (n : ℕ). code_of (coded n false)) codes ≡ map Is codes
+pub codes_back : map (λ (n : ℕ). code_of (coded n false)) codes ≡ map Ok codes
 unfolding is_in coded first_with code_by code_of
 codes_back = refl
 

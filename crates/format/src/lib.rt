@@ -4,7 +4,7 @@
 #![tactic(auto)]
 
 ghost use Rattle.std.specs.Prelude.{◌≡◌, true, false, cond, ◌≤◌};
-ghost use Rattle.format.specs.Codes.{is_in, coded, format_of, code_by, code_of};
+ghost use Rattle.format.specs.Codes.{coded, format_of, code_by, code_of};
 ghost use Rattle.format.specs.Fields.{size_of, len_of};
 ghost use Rattle.format.specs.Format.{extended_of, plain};
 
@@ -50,24 +50,6 @@ pub enum Field {
     ExtraBytes,
 }
 
-#[derive(Clone, Copy)]
-pub enum NewFormat {
-    Is(Format),
-    Refused(Refusal),
-}
-
-#[derive(Clone, Copy)]
-pub enum FormatLen {
-    Is(u16),
-    Refused(Refusal),
-}
-
-#[derive(Clone, Copy)]
-pub enum FormatCode {
-    Is(u8),
-    Refused(Refusal),
-}
-
 impl Field {
     // The bytes this field takes in a record of the given format.
     pub fn size(self, format: Format) -> usize
@@ -94,16 +76,16 @@ impl Field {
 impl Format {
     // The format with this code: 0 to 10; 128 or more is masked with 0x3f and marked compressed, whatever remains; 11 to
     // 127 are refused with 5.
-    pub fn new(n: u8) -> NewFormat
+    pub fn new(n: u8) -> Result<Format, Refusal>
         ensures { result ≡ format_of n }
     {
         if n < 11 {
-            return NewFormat::Is(with_code(n, false));
+            return Ok(with_code(n, false));
         }
         if n < 128 {
-            return NewFormat::Refused(Refusal::Format(n));
+            return Err(Refusal::Format(n));
         }
-        NewFormat::Is(with_code(n % 64, true))
+        Ok(with_code(n % 64, true))
     }
 
     // This format, extended: with the longer flags and angle, and with time, which extended formats must have.
@@ -116,7 +98,7 @@ impl Format {
     }
 
     // The bytes of a record of this format, or 8 with the true length where that is over 65,535.
-    pub fn len(self) -> FormatLen
+    pub fn len(self) -> Result<u16, Refusal>
         ensures { result ≡ len_of self }
     {
         let n = 20
@@ -125,36 +107,38 @@ impl Format {
             + when(self.has_color, 6)
             + when(self.has_nir, 2)
             + when(self.has_waveform, 29)
-            + (self.extra_bytes as u32);
+            + (self.extra_bytes as usize);
         if n > 65535 {
-            return FormatLen::Refused(Refusal::RecordLength(n));
+            return Err(Refusal::RecordLength(n as u32));
         }
-        FormatLen::Is(n as u16)
+        Ok(n as u16)
     }
 
     // The code of this format, or 25 where it is compressed or no code has these attributes.
-    pub fn to_u8(self) -> FormatCode
+    pub fn to_u8(self) -> Result<u8, Refusal>
         ensures { result ≡ code_of self }
     {
         if self.is_compressed {
-            return FormatCode::Refused(Refusal::Attributes);
+            return Err(Refusal::Attributes);
         }
         if self.is_extended {
             if self.has_gps_time {
                 return extended_code(self.has_color, self.has_nir, self.has_waveform);
             }
-            return FormatCode::Refused(Refusal::Attributes);
+            return Err(Refusal::Attributes);
         }
         if self.has_nir {
-            return FormatCode::Refused(Refusal::Attributes);
+            return Err(Refusal::Attributes);
         }
         legacy_code(self.has_gps_time, self.has_color, self.has_waveform)
     }
+}
 
-    // The format with no attribute at all, which is format 0.
-    pub fn default() -> Format
-        ensures { result ≡ plain }
-    {
+// The format with no attribute at all, which is format 0.
+impl Default for Format {
+    ghost is_default = { λ f. f ≡ plain };
+
+    fn default() -> Format {
         Format {
             has_gps_time: false,
             has_color: false,
@@ -167,85 +151,53 @@ impl Format {
     }
 }
 
-// Whether n is among the numbers of a list.
-fn contains(list: &[u8], n: u8) -> bool
-    ensures { result ≡ is_in n list.now }
-{
-    for i in 0..list.len() {
-        if list[i] == n {
-            return true;
-        }
-    }
-    false
-}
-
 // The attributes of an uncompressed code.
 fn with_code(n: u8, is_compressed: bool) -> Format
     ensures { result ≡ coded n is_compressed }
 {
     Format {
-        has_gps_time: contains(&TIME_FORMATS, n),
-        has_color: contains(&COLOR_FORMATS, n),
+        has_gps_time: TIME_FORMATS.contains(&n),
+        has_color: COLOR_FORMATS.contains(&n),
         is_extended: n >= 6,
-        has_waveform: contains(&WAVEFORM_FORMATS, n),
-        has_nir: contains(&NIR_FORMATS, n),
+        has_waveform: WAVEFORM_FORMATS.contains(&n),
+        has_nir: NIR_FORMATS.contains(&n),
         extra_bytes: 0,
         is_compressed,
     }
 }
 
 // The code of an extended format with time.
-fn extended_code(color: bool, nir: bool, waveform: bool) -> FormatCode
+fn extended_code(color: bool, nir: bool, waveform: bool) -> Result<u8, Refusal>
     ensures { result ≡ code_by true true color nir waveform }
 {
-    if color {
-        if nir {
-            if waveform {
-                return FormatCode::Is(10);
-            }
-            return FormatCode::Is(8);
-        }
-        if waveform {
-            return FormatCode::Refused(Refusal::Attributes);
-        }
-        return FormatCode::Is(7);
+    match (color, nir, waveform) {
+        (false, false, false) => Ok(6),
+        (true, false, false) => Ok(7),
+        (true, true, false) => Ok(8),
+        (false, false, true) => Ok(9),
+        (true, true, true) => Ok(10),
+        (false, true, _) => Err(Refusal::Attributes),
+        (true, false, true) => Err(Refusal::Attributes),
     }
-    if nir {
-        return FormatCode::Refused(Refusal::Attributes);
-    }
-    if waveform {
-        return FormatCode::Is(9);
-    }
-    FormatCode::Is(6)
 }
 
 // The code of a legacy format, which has no near infrared.
-fn legacy_code(gps_time: bool, color: bool, waveform: bool) -> FormatCode
+fn legacy_code(gps_time: bool, color: bool, waveform: bool) -> Result<u8, Refusal>
     ensures { result ≡ code_by false gps_time color false waveform }
 {
-    if waveform {
-        if gps_time {
-            if color {
-                return FormatCode::Is(5);
-            }
-            return FormatCode::Is(4);
-        }
-        return FormatCode::Refused(Refusal::Attributes);
+    match (waveform, gps_time, color) {
+        (false, false, false) => Ok(0),
+        (false, true, false) => Ok(1),
+        (false, false, true) => Ok(2),
+        (false, true, true) => Ok(3),
+        (true, true, false) => Ok(4),
+        (true, true, true) => Ok(5),
+        (true, false, _) => Err(Refusal::Attributes),
     }
-    if gps_time {
-        if color {
-            return FormatCode::Is(3);
-        }
-        return FormatCode::Is(1);
-    }
-    if color {
-        return FormatCode::Is(2);
-    }
-    FormatCode::Is(0)
 }
 
 // n where the test holds, else 0.
-fn when(test: bool, n: u32) -> u32
+pub fn when(test: bool, n: usize) -> usize
     ensures { (result ≡ cond test n 0) × (result ≤ n) }
 {
     if test { n } else { 0 }

@@ -1,4 +1,7 @@
 -- The header that a block of bytes holds, field by field: document 01, "Record layouts".
+use Rattle.std.specs.Prelude.{Option, Some, None, Result, Ok, Err}
+use Rattle.refusal.specs.declared.Refusal.{Refusal}
+use Rattle.header.specs.declared.Evlr.{Evlr}
 use Rattle.std.specs.Prelude.{ℕ, ◌+◌, ◌*◌, ◌^◌, false, cond, List, [], ◌∷◌, eqb, ltb, Float, replicate}
 use Rattle.std.specs.Float.Ieee.{of_bits}
 use Rattle.std.specs.Float.{binary64}
@@ -7,13 +10,7 @@ use Rattle.refusal.specs.declared.Refusal.TheVariants.{PointExtent}
 use Rattle.fields.specs.Table as fields
 use Rattle.header.specs.declared.Header.{Header}
 use Rattle.header.specs.declared.Nans.{Nans}
-use Rattle.header.specs.declared.OptionU64.{OptionU64}
-use Rattle.header.specs.declared.OptionU64.TheVariants as start
 use Rattle.header.specs.declared.LargeFile.{LargeFile}
-use Rattle.header.specs.declared.OptionEvlr.{OptionEvlr}
-use Rattle.header.specs.declared.OptionEvlr.TheVariants as pair
-use Rattle.header.specs.declared.EndOfPoints.{EndOfPoints}
-use Rattle.header.specs.declared.EndOfPoints.TheVariants as end
 use Rattle.header.specs.Kinds.{Value, value_at}
 use Rattle.header.specs.Layout.{Field, FileSourceId, GlobalEncoding, Guid, VersionMajor, VersionMinor, SystemIdentifier, GeneratingSoftware, FileCreationDayOfYear, FileCreationYear, HeaderSize, OffsetToPointData, NumberOfVariableLengthRecords, PointDataRecordFormat, PointDataRecordLength, LegacyNumberOfPointRecords, LegacyNumberOfPointsByReturn, XScaleFactor, YScaleFactor, ZScaleFactor, XOffset, YOffset, ZOffset, MaxX, MinX, MaxY, MinY, MaxZ, MinZ, StartOfWaveformDataPacketRecord, StartOfFirstEvlr, NumberOfEvlrs, NumberOfPointRecords, NumberOfPointsByReturn, place, kind, width, fields12, size}
 
@@ -29,14 +26,14 @@ abbrev pub number : Field → List ℕ → ℕ
 number f b = num (width f) (place f) b
 
 -- no waveform start is written as 0, and 0 reads as none
-unfoldable pub start_of : ℕ → OptionU64
-start_of n = cond (eqb n 0) start.None (start.Some n)
+unfoldable pub start_of : ℕ → Option ℕ
+start_of n = cond (eqb n 0) None (Some n)
 
 -- "An EVLR pair of which either is zero reads as none"
-unfoldable pub evlr_of : ℕ → ℕ → OptionEvlr
+unfoldable pub evlr_of : ℕ → ℕ → Option Evlr
 evlr_of a n =
-    cond (eqb a 0) pair.None
-    (cond (eqb n 0) pair.None (pair.Some (record { start_of_first_evlr = a; number_of_evlrs = n })))
+    cond (eqb a 0) None
+    (cond (eqb n 0) None (Some (record { start_of_first_evlr = a; number_of_evlrs = n })))
 
 -- what is kept beside the floats
 unfoldable pub nans_of : List ℕ → Nans
@@ -157,8 +154,8 @@ default_header =
         max_z = 0;
         min_z = 0;
       };
-      start_of_waveform_data_packet_record = start.None;
-      evlr = pair.None;
+      start_of_waveform_data_packet_record = None;
+      evlr = None;
       has_large_file = false;
       large_file = no_large;
     }
@@ -168,9 +165,9 @@ unfoldable pub points_of : Header → ℕ
 points_of h = cond (eqb h.number_of_point_records 0) (large_back h).number_of_point_records h.number_of_point_records
 
 -- the first byte after the points, by the header's own record length; 12 with the count where that is 2 ^ 64 or more
-unfoldable pub end_of : ℕ → ℕ → ℕ → EndOfPoints
+unfoldable pub end_of : ℕ → ℕ → ℕ → Result ℕ Refusal
 end_of offset points each =
-    cond (ltb (offset + points * each) (2 ^ 64)) (end.Is (offset + points * each)) (end.Refused (PointExtent points))
+    cond (ltb (offset + points * each) (2 ^ 64)) (Ok (offset + points * each)) (Err (PointExtent points))
 
-unfoldable pub end_of_points : Header → EndOfPoints
+unfoldable pub end_of_points : Header → Result ℕ Refusal
 end_of_points h = end_of h.offset_to_point_data (points_of h) h.point_data_record_length

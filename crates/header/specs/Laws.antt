@@ -1,4 +1,7 @@
 -- Laws of rule 1: what the answer says of the bytes, and what gives that answer.
+use Rattle.std.specs.Prelude.{Result, Ok, Err}
+use Rattle.header.specs.Whole.{whole_of, whole_same}
+use Rattle.header.specs.declared.Whole.{Whole}
 use Rattle.std.specs.Prelude.{ℕ, ◌+◌, ◌*◌, ◌≤◌, ◌<◌, ◌≡◌, Bool, true, false, cond, ◌&&◌, List, [], ◌∷◌, T, eqb, ltb, length, take, drop}
 use Rattle.std.proofs.Math.Path.{refl, sym, ap}
 use Rattle.std.proofs.Common.{subst, ◌∙◌, arith, le-ltb, lt-ltb, eq-eqb, eqb-true, ltb-true, ltb-false, length-take, length-take-le}
@@ -11,10 +14,6 @@ use Rattle.le.specs.Part.{num-first}
 use Rattle.refusal.specs.declared.Refusal.{Refusal}
 use Rattle.refusal.specs.declared.Refusal.TheVariants.{Short, Signature, Version as VersionRefusal}
 use Rattle.header.specs.declared.Version.{Version}
-use Rattle.header.specs.declared.StandardSize.{StandardSize}
-use Rattle.header.specs.declared.StandardSize.TheVariants.{Is, Refused as Unknown}
-use Rattle.header.specs.declared.HeaderAnswer.{HeaderAnswer}
-use Rattle.header.specs.declared.HeaderAnswer.TheVariants.{Whole, Refused}
 use Rattle.header.specs.Layout.{Field, FileSignature, VersionMajor, VersionMinor, HeaderSize, place, width, fields12, fields13, fields14, fields_of, size}
 use Rattle.header.specs.Header.{part, number, lasf}
 use Rattle.header.specs.Window.{part-take}
@@ -66,43 +65,44 @@ pub short_13 : (m : ℕ) → m < 4 → size (fields_of m) ≤ 235
 short_13 m h = by_version (λ fs. size fs ≤ 235) m (λ l. omega arith) (λ e. omega arith) (λ l. absurd (omega arith))
 
 -- where a chain of tests answers whole, a test that would refuse has failed
-module _ (n e : ℕ) (b : Bool) (r : Refusal) (a : HeaderAnswer) where
-  past : cond b (Refused r) a ≡ Whole n e → (b ≡ false) × (a ≡ Whole n e)
+module _ (n e : ℕ) (b : Bool) (r : Refusal) (a : Result Whole Refusal) where
+  past : cond b (Err r) a ≡ Ok (whole_of n e) → (b ≡ false) × (a ≡ Ok (whole_of n e))
   past p = go b refl p
     where
-      go : (t : Bool) → b ≡ t → cond t (Refused r) a ≡ Whole n e → (b ≡ false) × (a ≡ Whole n e)
+      go : (t : Bool) → b ≡ t → cond t (Err r) a ≡ Ok (whole_of n e) → (b ≡ false) × (a ≡ Ok (whole_of n e))
       go true q h = let z : ◌≡◌ {A = ℕ} 0 1 = cc in absurd (omega arith)
       go false q h = (q, h)
 
-  held : cond b a (Refused r) ≡ Whole n e → (b ≡ true) × (a ≡ Whole n e)
+  held : cond b a (Err r) ≡ Ok (whole_of n e) → (b ≡ true) × (a ≡ Ok (whole_of n e))
   held p = go b refl p
     where
-      go : (t : Bool) → b ≡ t → cond t a (Refused r) ≡ Whole n e → (b ≡ true) × (a ≡ Whole n e)
+      go : (t : Bool) → b ≡ t → cond t a (Err r) ≡ Ok (whole_of n e) → (b ≡ true) × (a ≡ Ok (whole_of n e))
       go true q h = (q, h)
       go false q h = let z : ◌≡◌ {A = ℕ} 0 1 = cc in absurd (omega arith)
 
 -- of a version that has a size, the version and the size
-pub known : (v : Version) (n : ℕ) → standard_of v ≡ Is n → (v.major ≡ 1) × (v.minor < 5) × (n ≡ size (fields_of v.minor))
+pub known : (v : Version) (n : ℕ) → standard_of v ≡ Ok n → (v.major ≡ 1) × (v.minor < 5) × (n ≡ size (fields_of v.minor))
 unfolding standard_of
 known v n p = go (eqb v.major 1) (ltb v.minor 5) refl refl p
   where
-    go : (a b : Bool) → eqb v.major 1 ≡ a → ltb v.minor 5 ≡ b → cond (a && b) (Is (size (fields_of v.minor))) (Unknown (VersionRefusal (v.major * 256 + v.minor))) ≡ Is n → (v.major ≡ 1) × (v.minor < 5) × (n ≡ size (fields_of v.minor))
+    go : (a b : Bool) → eqb v.major 1 ≡ a → ltb v.minor 5 ≡ b → cond (a && b) (Ok (size (fields_of v.minor))) (Err (VersionRefusal (v.major * 256 + v.minor))) ≡ Ok n → (v.major ≡ 1) × (v.minor < 5) × (n ≡ size (fields_of v.minor))
     go true true q h e = (eqb-true _ _ q, ltb-true _ _ h, (cc))
     go true false q h e = let z : ◌≡◌ {A = ℕ} 0 1 = cc in absurd (omega arith)
     go false b q h e = let z : ◌≡◌ {A = ℕ} 0 1 = cc in absurd (omega arith)
 
 -- "Fewer than the standard size, then than the header-size field" did not hold
-in_size : (s : List ℕ) (x : StandardSize) (n e : ℕ) → sized x s ≡ Whole n e → (x ≡ Is n) × (n ≤ length s) × (number HeaderSize s ≤ length s) × (e ≡ padded_to n (number HeaderSize s))
+in_size : (s : List ℕ) (x : Result ℕ Refusal) (n e : ℕ) → sized x s ≡ Ok (whole_of n e) → (x ≡ Ok n) × (n ≤ length s) × (number HeaderSize s ≤ length s) × (e ≡ padded_to n (number HeaderSize s))
 unfolding sized
-in_size s (Unknown r) n e p = let z : ◌≡◌ {A = ℕ} 0 1 = cc in absurd (omega arith)
-in_size s (Is m) n e p =
+in_size s (Err r) n e p = let z : ◌≡◌ {A = ℕ} 0 1 = cc in absurd (omega arith)
+in_size s (Ok m) n e p =
     let block = past n e (ltb (length s) m) (Short m) _ p in
     let field = past n e (ltb (length s) (number HeaderSize s)) (Short (number HeaderSize s)) _ block.1 in
-    let same : m ≡ n = cc in
-    ((cc), rw same at (ltb-false (length s) m block.0), ltb-false (length s) (number HeaderSize s) field.0, (cc))
+    let told = whole_same field.1 in
+    let same : m ≡ n = told.0 in
+    (ap Ok same, rw same at (ltb-false (length s) m block.0), ltb-false (length s) (number HeaderSize s) field.0, sym told.1 ∙ ap (λ (k : ℕ). padded_to k (number HeaderSize s)) same)
 
 -- Rule 1 holds exactly where the answer is whole.
-pub accepted : (s : List ℕ) {n e : ℕ} → judged s ≡ Whole n e → Accepted s n e
+pub accepted : (s : List ℕ) {n e : ℕ} → judged s ≡ Ok (whole_of n e) → Accepted s n e
 unfolding judged versioned version_of
 accepted s {n} {e} p =
     let four = past n e (ltb (length s) 4) (Short 4) _ p in
@@ -121,11 +121,11 @@ accepted s {n} {e} p =
     }
 
 -- and its version has the block's size
-pub standard-of : (s : List ℕ) {n e : ℕ} → judged s ≡ Whole n e → standard_of (version_of s) ≡ Is n
+pub standard-of : (s : List ℕ) {n e : ℕ} → judged s ≡ Ok (whole_of n e) → standard_of (version_of s) ≡ Ok n
 unfolding standard_of version_of
 standard-of s p = let a = accepted s p in rw (eq-eqb _ _ a.major, lt-ltb _ _ a.minor, ← a.block)
 
-pub whole : (s : List ℕ) {n e : ℕ} → Accepted s n e → judged s ≡ Whole n e
+pub whole : (s : List ℕ) {n e : ℕ} → Accepted s n e → judged s ≡ Ok (whole_of n e)
 unfolding judged versioned standard_of version_of sized
 whole s {n} {e} a =
     let least : 227 ≤ n = rw (← a.block) at (size-least (number VersionMinor s)) in
@@ -133,7 +133,7 @@ whole s {n} {e} a =
 
 -- The block is no shorter than version 1.0's, and lies with its padding in the bytes; the header-size field does not pass
 -- the padding's end.
-pub within : (s : List ℕ) {n e : ℕ} → judged s ≡ Whole n e → (227 ≤ n) × (n ≤ e) × (e ≤ length s) × (number HeaderSize s ≤ e)
+pub within : (s : List ℕ) {n e : ℕ} → judged s ≡ Ok (whole_of n e) → (227 ≤ n) × (n ≤ e) × (e ≤ length s) × (number HeaderSize s ≤ e)
 unfolding padded_to
 within s {n} {e} p = go (ltb n (number HeaderSize s)) refl
   where
@@ -152,7 +152,7 @@ within s {n} {e} p = go (ltb n (number HeaderSize s)) refl
         (least, omega arith, omega (arith, a.holds-block), omega (arith, ltb-false n (number HeaderSize s) q))
 
 -- Bytes that agree as far as the padding have the same answer.
-pub agreed : (s t : List ℕ) {n e : ℕ} → judged s ≡ Whole n e → take e s ≡ take e t → judged t ≡ Whole n e
+pub agreed : (s t : List ℕ) {n e : ℕ} → judged s ≡ Ok (whole_of n e) → take e s ≡ take e t → judged t ≡ Ok (whole_of n e)
 agreed s t {n} {e} p same =
     let a = accepted s p in
     let w = within s p in
@@ -174,10 +174,10 @@ agreed s t {n} {e} p same =
 
 -- As many bytes with the same signature, version and header-size field have the same answer.
 module _ (s t : List ℕ) (long : length t ≡ length s) (signature : part FileSignature t ≡ part FileSignature s) (major : number VersionMajor t ≡ number VersionMajor s) (minor : number VersionMinor t ≡ number VersionMinor s) (field : number HeaderSize t ≡ number HeaderSize s) where
-  same_size : (x : StandardSize) → sized x t ≡ sized x s
+  same_size : (x : Result ℕ Refusal) → sized x t ≡ sized x s
   unfolding sized
-  same_size (Unknown r) = refl
-  same_size (Is n) = rw (long, field)
+  same_size (Err r) = refl
+  same_size (Ok n) = rw (long, field)
 
   pub same_answer : judged t ≡ judged s
   unfolding judged versioned version_of

@@ -1,4 +1,5 @@
 -- definitions
+pub mod Whole
 pub mod Kinds
 pub mod Layout
 pub mod Header

@@ -1,12 +1,14 @@
 -- What the definitions add up to.
+use Rattle.std.specs.Prelude.{Result, Ok}
+use Rattle.header.specs.Whole.{whole_of}
+use Rattle.header.specs.declared.Whole.{Whole}
+use Rattle.refusal.specs.declared.Refusal.{Refusal}
 use Rattle.std.specs.Prelude.{ℕ, ◌≡◌, refl, List, drop}
 use Rattle.std.proofs.Math.Path.{sym, ap}
 use Rattle.std.proofs.Common.{◌∙◌}
 use Rattle.std.proofs.Math.ListN.{take}
 use Rattle.std.proofs.Math.Seq.{take-take}
 use Rattle.fields.specs.Table.{Follow}
-use Rattle.header.specs.declared.HeaderAnswer.{HeaderAnswer}
-use Rattle.header.specs.declared.HeaderAnswer.TheVariants.{Whole}
 use Rattle.header.specs.Layout.{place, width, fields12, fields13, fields14, size}
 use Rattle.header.specs.Header.{header_of}
 use Rattle.header.specs.Judged.{judged, read_by, read_of, padding_by, padding_of}
@@ -29,7 +31,10 @@ sizes = (refl, refl, refl)
 
 -- "If the header-size field is above the standard size, the bytes between are padding": past their end the reader does
 -- not look. Bytes that agree so far have the same answer, the same header and the same padding.
-module _ (s t : List ℕ) {n e : ℕ} (p : judged s ≡ Whole n e) (same : take e s ≡ take e t) where
+module _ (s t : List ℕ) {n e : ℕ} (p : judged s ≡ Ok (whole_of n e)) (same : take e s ≡ take e t) where
+  pub same_answer : judged t ≡ judged s
+  same_answer = agreed s t p same ∙ sym p
+
   pub same_header : read_of t ≡ read_of s
   unfolding read_of read_by
   same_header =
@@ -37,15 +42,15 @@ module _ (s t : List ℕ) {n e : ℕ} (p : judged s ≡ Whole n e) (same : take 
       let w = within s p in
       let blocks : take n t ≡ take n s =
       sym (take-take n e t w.1) ∙ ap (take n) (sym same) ∙ take-take n e s w.1 in
-      ap (λ (a : HeaderAnswer). read_by a t) q
-      ∙ (λ i. record { answer = Whole n e; header = header_of (blocks i) })
-      ∙ ap (λ (a : HeaderAnswer). read_by a s) (sym p)
+      ap (λ (a : Result Whole Refusal). read_by a t) q
+      ∙ (λ i. Ok (header_of (blocks i)))
+      ∙ ap (λ (a : Result Whole Refusal). read_by a s) (sym p)
 
   pub same-padding : padding_of t ≡ padding_of s
   unfolding padding_of padding_by
   same-padding =
       let q = agreed s t p same in
       let w = within s p in
-      ap (λ (a : HeaderAnswer). padding_by a t) q
+      ap (λ (a : Result Whole Refusal). padding_by a t) q
       ∙ sym (drop-take n e t) ∙ ap (drop n) (sym same) ∙ drop-take n e s
-      ∙ ap (λ (a : HeaderAnswer). padding_by a s) (sym p)
+      ∙ ap (λ (a : Result Whole Refusal). padding_by a s) (sym p)

@@ -2,9 +2,9 @@
 #![tactic(auto)]
 
 ghost use Rattle.std.specs.Prelude.{◌≡◌, ◌≤◌, length};
-ghost use Rattle.header.specs.Layout.{FileSignature, LegacyNumberOfPointsByReturn, NumberOfPointsByReturn};
-ghost use Rattle.header.specs.Header.{part, value, start_of, evlr_of, nans_of, header_of, lasf, default_header, points_of, end_of, end_of_points};
-ghost use Rattle.header.specs.Judged.{eq_list, standard_of, sized, versioned, judged, read_of, padding_of};
+ghost use Rattle.header.specs.Layout.{LegacyNumberOfPointsByReturn, NumberOfPointsByReturn};
+ghost use Rattle.header.specs.Header.{value, start_of, evlr_of, nans_of, header_of, default_header, points_of, end_of, end_of_points};
+ghost use Rattle.header.specs.Judged.{standard_of, sized, versioned, judged, read_of, padding_of};
 
 use refusal::Refusal;
 
@@ -17,29 +17,10 @@ pub struct Version {
     pub minor: u8,
 }
 
-// A version's header size, or refusal 3 where it is not 1.0 to 1.4.
-#[derive(Clone, Copy)]
-pub enum StandardSize {
-    Is(u16),
-    Refused(Refusal),
-}
-
-#[derive(Clone, Copy)]
-pub enum OptionU64 {
-    Some(u64),
-    None,
-}
-
 #[derive(Clone, Copy)]
 pub struct Evlr {
     pub start_of_first_evlr: u64,
     pub number_of_evlrs: u32,
-}
-
-#[derive(Clone, Copy)]
-pub enum OptionEvlr {
-    Some(Evlr),
-    None,
 }
 
 #[derive(Clone, Copy)]
@@ -96,53 +77,37 @@ pub struct Header {
     pub max_z: f64,
     pub min_z: f64,
     pub nans: Nans,
-    pub start_of_waveform_data_packet_record: OptionU64,
-    pub evlr: OptionEvlr,
+    pub start_of_waveform_data_packet_record: Option<u64>,
+    pub evlr: Option<Evlr>,
     pub has_large_file: bool,
     pub large_file: LargeFile,
 }
 
-// Where the standard block ends and where its padding does, or why there is no header.
+// Where the standard block of a whole header ends, and where its padding does.
 #[derive(Clone, Copy)]
-pub enum HeaderAnswer {
-    Whole { block: usize, end: usize },
-    Refused(Refusal),
-}
-
-// The header that was read; the default one where the answer is a refusal.
-#[derive(Clone, Copy)]
-pub struct HeaderRead {
-    pub answer: HeaderAnswer,
-    pub header: Header,
-}
-
-// The first byte after the points, or refusal 12 with the count where it is 2^64 or more.
-#[derive(Clone, Copy)]
-pub enum EndOfPoints {
-    Is(u64),
-    Refused(Refusal),
+pub struct Whole {
+    pub block: usize,
+    pub end: usize,
 }
 
 impl Version {
     // The bytes of a header of this version without padding, or refusal 3.
-    pub fn header_size(self) -> StandardSize
+    pub fn header_size(self) -> Result<u16, Refusal>
         ensures { result ≡ standard_of self }
     {
         let minor = self.minor;
-        let refused = StandardSize::Refused(Refusal::Version(
-            (self.major as u16) * 256 + (minor as u16),
-        ));
+        let refused = Err(Refusal::Version((self.major as u16) * 256 + (minor as u16)));
         if self.major != 1 {
             return refused;
         }
         if minor < 3 {
-            return StandardSize::Is(227);
+            return Ok(227);
         }
         if minor < 4 {
-            return StandardSize::Is(235);
+            return Ok(235);
         }
         if minor < 5 {
-            return StandardSize::Is(375);
+            return Ok(375);
         }
         refused
     }
@@ -150,15 +115,11 @@ impl Version {
 
 impl Header {
     // The header at the front of `s`, by rule 1 of document 01: refused with 1, 2 or 3.
-    pub fn read_from(s: &[u8]) -> HeaderRead
+    pub fn read_from(s: &[u8]) -> Result<Header, Refusal>
         ensures { result ≡ read_of s.now }
     {
-        let answer = judge(s);
-        let header = match answer {
-            HeaderAnswer::Whole { block, end: _ } => read_block(&s[..block]),
-            HeaderAnswer::Refused(_) => Header::default(),
-        };
-        HeaderRead { answer, header }
+        let whole = measure(s)?;
+        Ok(read_block(&s[..whole.block]))
     }
 
     // The points the header counts: the legacy count if it is not zero, else the large count, if any.
@@ -176,18 +137,20 @@ impl Header {
     }
 
     // The first byte after the points, by the record length that the header states.
-    pub fn offset_to_end_of_points(self) -> EndOfPoints
+    pub fn offset_to_end_of_points(self) -> Result<u64, Refusal>
         ensures { result ≡ end_of_points self }
     {
         let offset = self.offset_to_point_data;
         let each = self.point_data_record_length;
         end_of_points(offset, self.number_of_point_records(), each)
     }
+}
 
-    // Version 1.2, format 0, no points.
-    pub fn default() -> Header
-        ensures { result ≡ default_header }
-    {
+// Version 1.2, format 0, no points.
+impl Default for Header {
+    ghost is_default = { λ h. h ≡ default_header };
+
+    fn default() -> Header {
         Header {
             file_source_id: 0,
             global_encoding: 0,
@@ -217,8 +180,8 @@ impl Header {
             max_z: 0.0,
             min_z: 0.0,
             nans: no_nans(),
-            start_of_waveform_data_packet_record: OptionU64::None,
-            evlr: OptionEvlr::None,
+            start_of_waveform_data_packet_record: None,
+            evlr: None,
             has_large_file: false,
             large_file: LargeFile {
                 number_of_point_records: 0,
@@ -232,71 +195,61 @@ impl Header {
 pub fn padding(s: &[u8]) -> &[u8]
     ensures { result.now ≡ padding_of s.now }
 {
-    match judge(s) {
-        HeaderAnswer::Whole { block, end } => &s[block..end],
-        HeaderAnswer::Refused(_) => &s[..0],
+    match measure(s) {
+        Ok(whole) => &s[whole.block..whole.end],
+        Err(_) => &s[..0],
     }
 }
 
-// Rule 1 of document 01, in its order.
-fn judge(s: &[u8]) -> HeaderAnswer
+// Where the standard block of the header ends and where its padding does, or the refusal, by rule 1 of document 01 in its
+// order.
+pub fn measure(s: &[u8]) -> Result<Whole, Refusal>
     ensures { result ≡ judged s.now }
 {
     if s.len() < 4 {
-        return HeaderAnswer::Refused(Refusal::Short(4));
+        return Err(Refusal::Short(4));
     }
-    if is_lasf(s) {
+    if s.starts_with(&LASF) {
         return judge_version(s);
     }
-    HeaderAnswer::Refused(Refusal::Signature(le::u32_at(s, 0)))
+    Err(Refusal::Signature(le::u32_at(s, 0)))
 }
 
 // The rest of rule 1, for bytes that begin with the signature.
-fn judge_version(s: &[u8]) -> HeaderAnswer
+fn judge_version(s: &[u8]) -> Result<Whole, Refusal>
     ensures { result ≡ versioned s.now }
 {
     if s.len() < 26 {
-        return HeaderAnswer::Refused(Refusal::Short(26));
+        return Err(Refusal::Short(26));
     }
     let version = Version {
         major: le::u8_at(s, 24),
         minor: le::u8_at(s, 25),
     };
-    match version.header_size() {
-        StandardSize::Is(n) => judge_size(s, n),
-        StandardSize::Refused(refusal) => HeaderAnswer::Refused(refusal),
-    }
+    judge_size(s, version.header_size()?)
 }
 
 // Whether `s` holds a block of `n` bytes and as many as the header-size field says.
-fn judge_size(s: &[u8], n: u16) -> HeaderAnswer
-    ensures { result ≡ sized (StandardSize.Is n) s.now }
+fn judge_size(s: &[u8], n: u16) -> Result<Whole, Refusal>
+    ensures { result ≡ sized (Ok n) s.now }
 {
     if s.len() < n as usize {
-        return HeaderAnswer::Refused(Refusal::Short(n as u64));
+        return Err(Refusal::Short(n as u64));
     }
     let field = le::u16_at(s, 94);
     if s.len() < field as usize {
-        return HeaderAnswer::Refused(Refusal::Short(field as u64));
+        return Err(Refusal::Short(field as u64));
     }
     if n < field {
-        return HeaderAnswer::Whole {
+        return Ok(Whole {
             block: n as usize,
             end: field as usize,
-        };
+        });
     }
-    HeaderAnswer::Whole {
+    Ok(Whole {
         block: n as usize,
         end: n as usize,
-    }
-}
-
-// Whether the first four bytes are `LASF`.
-fn is_lasf(s: &[u8]) -> bool
-    requires { 4 ≤ length s.now }
-    ensures { result ≡ eq_list (part FileSignature s.now) lasf }
-{
-    check::same(&s[..4], &LASF)
+    })
 }
 
 // The header in the standard block of its version. What the version lacks lies past the block and is read as 0, so as
@@ -313,13 +266,13 @@ fn read_block(b: &[u8]) -> Header
     Header {
         file_source_id: le::u16_at(b, 4),
         global_encoding: le::u16_at(b, 6),
-        guid: store::bytes16(b, 8),
+        guid: store::bytes_at(b, 8),
         version: Version {
             major: le::u8_at(b, 24),
             minor,
         },
-        system_identifier: store::bytes32(b, 26),
-        generating_software: store::bytes32(b, 58),
+        system_identifier: store::bytes_at(b, 26),
+        generating_software: store::bytes_at(b, 58),
         file_creation_day_of_year: le::u16_at(b, 90),
         file_creation_year: le::u16_at(b, 92),
         header_size: le::u16_at(b, 94),
@@ -390,6 +343,7 @@ fn no_nans() -> Nans
 }
 
 // The legacy counts by return.
+// Stays: one line for each place reads as the standard's table does; a loop would need an invariant over the array.
 fn by_return(b: &[u8]) -> [u32; 5]
     ensures { result ≡ value LegacyNumberOfPointsByReturn b.now }
 {
@@ -403,6 +357,7 @@ fn by_return(b: &[u8]) -> [u32; 5]
 }
 
 // The counts by return of version 1.4.
+// Stays: as `by_return`.
 fn large_by_return(b: &[u8]) -> [u64; 15]
     ensures { result ≡ value NumberOfPointsByReturn b.now }
 {
@@ -426,43 +381,33 @@ fn large_by_return(b: &[u8]) -> [u64; 15]
 }
 
 // A waveform start of 0 is none.
-fn start_of(n: u64) -> OptionU64
+fn start_of(n: u64) -> Option<u64>
     ensures { result ≡ start_of n }
 {
-    if n == 0 {
-        OptionU64::None
-    } else {
-        OptionU64::Some(n)
-    }
+    if n == 0 { None } else { Some(n) }
 }
 
 // An EVLR pair of which either is zero is none.
-fn evlr_of(start_of_first_evlr: u64, number_of_evlrs: u32) -> OptionEvlr
+fn evlr_of(start_of_first_evlr: u64, number_of_evlrs: u32) -> Option<Evlr>
     ensures { result ≡ evlr_of start_of_first_evlr number_of_evlrs }
 {
     if start_of_first_evlr == 0 {
-        return OptionEvlr::None;
+        return None;
     }
     if number_of_evlrs == 0 {
-        return OptionEvlr::None;
+        return None;
     }
-    OptionEvlr::Some(Evlr {
+    Some(Evlr {
         start_of_first_evlr,
         number_of_evlrs,
     })
 }
 
-// `offset + points * each`, or 12: the product is tested by a division, so nothing wraps.
-fn end_of_points(offset: u32, points: u64, each: u16) -> EndOfPoints
+// `offset + points * each`, or 12 where that does not fit.
+fn end_of_points(offset: u32, points: u64, each: u16) -> Result<u64, Refusal>
     ensures { result ≡ end_of offset points each }
 {
-    let offset = offset as u64;
-    let each = each as u64;
-    if each == 0 {
-        return EndOfPoints::Is(offset);
-    }
-    if (18446744073709551615 - offset) / each < points {
-        return EndOfPoints::Refused(Refusal::PointExtent(points));
-    }
-    EndOfPoints::Is(offset + points * each)
+    let refused = Refusal::PointExtent(points);
+    let bytes = points.checked_mul(each as u64).ok_or(refused)?;
+    bytes.checked_add(offset as u64).ok_or(refused)
 }

@@ -1,4 +1,5 @@
 -- A header that went up goes down again, and is what it was.
+use Rattle.std.specs.List.{list_all}
 use Rattle.std.specs.Prelude.{ℕ, suc, ◌+◌, ◌-◌, ◌^◌, ◌<◌, ◌≡◌, true, ◌⊎◌, List, [], ◌∷◌, length, get_or, drop, replicate}
 use Rattle.std.proofs.Math.Path.{refl, sym, ap}
 use Rattle.std.proofs.Common.{◌∙◌, inl, inr, drop_at}
@@ -13,7 +14,7 @@ use Rattle.header.specs.Layout.{Field, kind, fields14}
 use Rattle.header.specs.Header.{points_of}
 use Rattle.header_write.specs.Bytes.{value_of}
 use Rattle.header_write.specs.Readable.{Readable}
-use Rattle.header_convert.specs.Turned.{beside, new_code, old_code, large_of, old_by_return, every, fits32, is_zero, changed_of, new_places, old_places, new_header, old_header}
+use Rattle.header_convert.specs.Turned.{beside, new_code, old_code, large_of, old_by_return, fits32, is_zero, changed_of, new_places, old_places, new_header, old_header}
 use Rattle.header_convert.specs.Is.{version_is, format_is, is-of}
 use Rattle.header_convert.specs.Steps.{OldFits}
 use Rattle.header_convert.specs.Goes.{GoesUp, GoesDown, hold_counts}
@@ -30,7 +31,7 @@ unfolding new_code
 new-kind f (inl e) = inl (rw e)
 new-kind f (inr e) = inr (rw e)
 
-every_below : (xs : List ℕ) → ((j : ℕ) → get_or xs j 0 < 256 ^ 4) → every fits32 xs ≡ true
+every_below : (xs : List ℕ) → ((j : ℕ) → get_or xs j 0 < 256 ^ 4) → list_all fits32 xs ≡ true
 every_below [] h = refl
 every_below (x ∷ xs) h = rw (lt-ltb x (2 ^ 32) (omega (arith, h 0))) (every_below xs (λ j. h (suc j)))
 
@@ -65,9 +66,9 @@ module _ (h : Header) (padding : List ℕ) (r : Readable h padding) (g : GoesUp 
   unfolding new_header new_places changed_of
   kind-new = new-kind h.point_data_record_format (format_is 2 1 3 h g.is)
 
-  more_new : every is_zero (drop 5 (large_of (new_header h))) ≡ true
+  more_new : list_all is_zero (drop 5 (large_of (new_header h))) ≡ true
   unfolding new_header new_places changed_of
-  more_new = ap (every is_zero) (drop_at h.number_of_points_by_return (replicate 10 0) 5 counts.five)
+  more_new = ap (list_all is_zero) (drop_at h.number_of_points_by_return (replicate 10 0) 5 counts.five)
 
   fits-new : OldFits (new_header h)
   unfolding new_header new_places changed_of

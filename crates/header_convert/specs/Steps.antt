@@ -1,8 +1,9 @@
 -- What the private steps go by.
+use Rattle.std.specs.List.{list_all}
 use Rattle.std.specs.Prelude.{◌+◌, ◌^◌, ◌≤◌, ◌<◌, ◌≡◌, true}
 use Rattle.header.specs.declared.Header.{Header}
 use Rattle.header.specs.Header.{points_of}
-use Rattle.header_convert.specs.Turned.{every, fits32, old_by_return}
+use Rattle.header_convert.specs.Turned.{fits32, old_by_return}
 
 -- the fields have room for what they gain
 pub record NewFits (h : Header) : Type 0 where
@@ -16,4 +17,4 @@ pub record OldFits (h : Header) : Type 0 where
   pub offset : 148 ≤ h.offset_to_point_data
   pub each : 2 ≤ h.point_data_record_length
   pub count : points_of h < 2 ^ 32
-  pub by-return : every fits32 (old_by_return h) ≡ true
+  pub by-return : list_all fits32 (old_by_return h) ≡ true

@@ -1,16 +1,13 @@
 -- The header of a file that goes to the other version: document 02, No. 3. All sums are exact.
-use Rattle.std.specs.Prelude.{ℕ, ◌+◌, ◌-◌, ◌^◌, Bool, true, false, cond, ◌&&◌, ◌||◌, List, [], ◌∷◌, ◌++◌, eqb, ltb, leb, take, drop, replicate}
+use Rattle.std.specs.List.{list_all}
+use Rattle.std.specs.Option.{is_some}
+use Rattle.std.specs.Prelude.{None, Result, Ok, Err, ℕ, ◌+◌, ◌-◌, ◌^◌, Bool, true, false, cond, ◌&&◌, ◌||◌, List, ◌++◌, eqb, ltb, leb, take, drop, replicate}
+use Rattle.refusal.specs.declared.Refusal.{Refusal}
 use Rattle.refusal.specs.declared.Refusal.TheVariants.{HeaderSize, RecordLength, PointOffset, OtherVersionOrFormat, EvlrsOrWaveforms, CountsTooLargeForOld}
 use Rattle.header.specs.declared.Header.{Header}
 use Rattle.header.specs.declared.LargeFile.{LargeFile}
-use Rattle.header.specs.declared.OptionU64.{OptionU64}
-use Rattle.header.specs.declared.OptionU64.TheVariants as start
-use Rattle.header.specs.declared.OptionEvlr.{OptionEvlr}
-use Rattle.header.specs.declared.OptionEvlr.TheVariants as pair
 use Rattle.header.specs.Header.{no_large, large_back, points_of}
 use Rattle.header_convert.specs.declared.Places.{Places}
-use Rattle.header_convert.specs.declared.Goes.{Goes}
-use Rattle.header_convert.specs.declared.Goes.TheVariants.{Yes, Refused}
 
 -- version 1.minor with one of two formats
 unfoldable pub is_of : ℕ → ℕ → ℕ → Header → Bool
@@ -18,16 +15,8 @@ is_of minor one other h =
     eqb h.version.major 1 && (eqb h.version.minor minor && (eqb h.point_data_record_format one || eqb h.point_data_record_format other))
 
 -- "EVLRs or a waveform start present", as they are read: half a pair is none
-abbrev pub is_start : OptionU64 → Bool
-is_start (start.Some n) = true
-is_start start.None = false
-
-abbrev pub is_pair : OptionEvlr → Bool
-is_pair (pair.Some e) = true
-is_pair pair.None = false
-
 unfoldable pub beside : Header → Bool
-beside h = is_start h.start_of_waveform_data_packet_record || is_pair h.evlr
+beside h = is_some h.start_of_waveform_data_packet_record || is_some h.evlr
 
 -- "format 1 or 3 into 1.4 with format 6 or 7", and back
 unfoldable pub new_code : ℕ → ℕ
@@ -44,11 +33,7 @@ large_of h = (large_back h).number_of_points_by_return
 unfoldable pub old_by_return : Header → List ℕ
 old_by_return h = cond (eqb h.number_of_point_records 0) (take 5 (large_of h)) h.number_of_points_by_return
 
--- every number of a list passes a test
-abbrev pub every : (ℕ → Bool) → List ℕ → Bool
-every test [] = true
-every test (x ∷ xs) = test x && every test xs
-
+-- a count has a place in a legacy field, or there is none
 abbrev pub fits32 : ℕ → Bool
 fits32 n = ltb n (2 ^ 32)
 
@@ -57,7 +42,7 @@ is_zero n = eqb n 0
 
 -- "going down, effective count or one of the five counts by return over 2^32−1, or any large count of returns 6 to 15 not zero": none is
 unfoldable pub counts_fit : Header → Bool
-counts_fit h = fits32 (points_of h) && (every fits32 (old_by_return h) && every is_zero (drop 5 (large_of h)))
+counts_fit h = fits32 (points_of h) && (list_all fits32 (old_by_return h) && list_all is_zero (drop 5 (large_of h)))
 
 -- a header with another version, other places and counts; "EVLRs or a waveform start" there are none, and all else is kept
 unfoldable pub changed_of : Places → ℕ → List ℕ → Bool → LargeFile → Header → Header
@@ -91,8 +76,8 @@ changed_of p points by-return has-large large h =
       max_z = h.max_z;
       min_z = h.min_z;
       nans = h.nans;
-      start_of_waveform_data_packet_record = start.None;
-      evlr = pair.None;
+      start_of_waveform_data_packet_record = None;
+      evlr = None;
       has_large_file = has-large;
       large_file = large;
     }
@@ -132,34 +117,34 @@ old_header h = changed_of (old_places h) (points_of h) (old_by_return h) false n
 
 -- "other version or format; EVLRs or a waveform start present; .. header size, then point offset not fitting its field", and a record length
 -- that does not, as the conversion of the points would refuse it next
-unfoldable pub new_goes : Header → Goes
+unfoldable pub new_goes : Header → Result Unit Refusal
 new_goes h =
     cond (is_of 2 1 3 h)
-    (cond (beside h) (Refused EvlrsOrWaveforms)
+    (cond (beside h) (Err EvlrsOrWaveforms)
     (cond (ltb (h.header_size + 148) (2 ^ 16))
     (cond (ltb (h.offset_to_point_data + 148) (2 ^ 32))
-    (cond (ltb (h.point_data_record_length + 2) (2 ^ 16)) Yes (Refused (RecordLength (h.point_data_record_length + 2))))
-    (Refused (PointOffset h.offset_to_point_data)))
-    (Refused (HeaderSize h.header_size))))
-    (Refused OtherVersionOrFormat)
+    (cond (ltb (h.point_data_record_length + 2) (2 ^ 16)) (Ok tt) (Err (RecordLength (h.point_data_record_length + 2))))
+    (Err (PointOffset h.offset_to_point_data)))
+    (Err (HeaderSize h.header_size))))
+    (Err OtherVersionOrFormat)
 
-unfoldable pub old_goes : Header → Goes
+unfoldable pub old_goes : Header → Result Unit Refusal
 old_goes h =
     cond (is_of 4 6 7 h)
-    (cond (beside h) (Refused EvlrsOrWaveforms)
+    (cond (beside h) (Err EvlrsOrWaveforms)
     (cond (counts_fit h)
     (cond (leb 148 h.header_size)
     (cond (leb 148 h.offset_to_point_data)
-    (cond (leb 2 h.point_data_record_length) Yes (Refused (RecordLength h.point_data_record_length)))
-    (Refused (PointOffset h.offset_to_point_data)))
-    (Refused (HeaderSize h.header_size)))
-    (Refused CountsTooLargeForOld)))
-    (Refused OtherVersionOrFormat)
+    (cond (leb 2 h.point_data_record_length) (Ok tt) (Err (RecordLength h.point_data_record_length)))
+    (Err (PointOffset h.offset_to_point_data)))
+    (Err (HeaderSize h.header_size)))
+    (Err CountsTooLargeForOld)))
+    (Err OtherVersionOrFormat)
 
 -- a header that goes, turned; one that does not, as it is
-abbrev pub turned_by : Goes → Header → Header → Header
-turned_by Yes new h = new
-turned_by (Refused r) new h = h
+abbrev pub turned_by : Result Unit Refusal → Header → Header → Header
+turned_by (Ok _) new h = new
+turned_by (Err r) new h = h
 
 unfoldable pub new_turned : Header → Header
 new_turned h = turned_by (new_goes h) (new_header h) h

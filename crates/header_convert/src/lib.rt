@@ -3,18 +3,12 @@
 #![tactic(auto)]
 
 ghost use Rattle.std.specs.Prelude.{◌≡◌, true, ◌++◌, drop, replicate};
-ghost use Rattle.header_convert.specs.Turned.{is_of, beside, new_code, old_code, large_of, old_by_return, every, fits32, is_zero, counts_fit, changed_of, new_header, old_header, new_goes, old_goes, new_turned, old_turned};
+ghost use Rattle.std.specs.List.{list_all};
+ghost use Rattle.header_convert.specs.Turned.{is_of, beside, new_code, old_code, large_of, old_by_return, fits32, is_zero, counts_fit, changed_of, new_header, old_header, new_goes, old_goes, new_turned, old_turned};
 ghost use Rattle.header_convert.specs.Steps.{NewFits, OldFits};
 
-use header::{Header, LargeFile, OptionEvlr, OptionU64, Version};
+use header::{Header, LargeFile, Version};
 use refusal::Refusal;
-
-// Whether a header goes to the other version, or why not.
-#[derive(Clone, Copy)]
-pub enum Goes {
-    Yes,
-    Refused(Refusal),
-}
 
 // What a header says of its version and of where its points lie, and as what.
 #[derive(Clone, Copy)]
@@ -28,52 +22,52 @@ pub struct Places {
 
 // Whether a header of version 1.2 goes to 1.4. Refused: 32 where the version is not 1.2 or the format neither 1 nor 3; 33 where there are
 // EVLRs or a waveform start; then 4, 9 and 8 where header size, point offset or record length would not fit its field.
-pub fn ask_new(header: Header) -> Goes
+pub fn ask_new(header: Header) -> Result<(), Refusal>
     ensures { result ≡ new_goes header }
 {
     if !is_of(header, 2, 1, 3) {
-        return Goes::Refused(Refusal::OtherVersionOrFormat);
+        return Err(Refusal::OtherVersionOrFormat);
     }
     if is_beside(header) {
-        return Goes::Refused(Refusal::EvlrsOrWaveforms);
+        return Err(Refusal::EvlrsOrWaveforms);
     }
     if 65387 < header.header_size {
-        return Goes::Refused(Refusal::HeaderSize(header.header_size));
+        return Err(Refusal::HeaderSize(header.header_size));
     }
     if 4294967147 < header.offset_to_point_data {
-        return Goes::Refused(Refusal::PointOffset(header.offset_to_point_data));
+        return Err(Refusal::PointOffset(header.offset_to_point_data));
     }
     if 65533 < header.point_data_record_length {
-        return Goes::Refused(Refusal::RecordLength((header.point_data_record_length as u32) + 2));
+        return Err(Refusal::RecordLength((header.point_data_record_length as u32) + 2));
     }
-    Goes::Yes
+    Ok(())
 }
 
 // Whether a header of version 1.4 goes to 1.2. Refused: 32 where the version is not 1.4 or the format neither 6 nor 7; 33 as above; 34 where
 // the effective count, or one of the five counts by return that would be written, is over 2^32 - 1, or a large count of returns 6 to 15
 // is not zero; then 4, 9 and 8 where header size, point offset or record length has not as much as it would lose.
-pub fn ask_old(header: Header) -> Goes
+pub fn ask_old(header: Header) -> Result<(), Refusal>
     ensures { result ≡ old_goes header }
 {
     if !is_of(header, 4, 6, 7) {
-        return Goes::Refused(Refusal::OtherVersionOrFormat);
+        return Err(Refusal::OtherVersionOrFormat);
     }
     if is_beside(header) {
-        return Goes::Refused(Refusal::EvlrsOrWaveforms);
+        return Err(Refusal::EvlrsOrWaveforms);
     }
     if !counts_fit(header) {
-        return Goes::Refused(Refusal::CountsTooLargeForOld);
+        return Err(Refusal::CountsTooLargeForOld);
     }
     if header.header_size < 148 {
-        return Goes::Refused(Refusal::HeaderSize(header.header_size));
+        return Err(Refusal::HeaderSize(header.header_size));
     }
     if header.offset_to_point_data < 148 {
-        return Goes::Refused(Refusal::PointOffset(header.offset_to_point_data));
+        return Err(Refusal::PointOffset(header.offset_to_point_data));
     }
     if header.point_data_record_length < 2 {
-        return Goes::Refused(Refusal::RecordLength(header.point_data_record_length as u32));
+        return Err(Refusal::RecordLength(header.point_data_record_length as u32));
     }
-    Goes::Yes
+    Ok(())
 }
 
 // The header of version 1.4 in place of one of 1.2 that goes; one that does not, as it is.
@@ -81,8 +75,8 @@ pub fn to_new(header: Header) -> Header
     ensures { result ≡ new_turned header }
 {
     match ask_new(header) {
-        Goes::Yes => new_header(header),
-        Goes::Refused(_) => header,
+        Ok(()) => new_header(header),
+        Err(_) => header,
     }
 }
 
@@ -91,8 +85,8 @@ pub fn to_old(header: Header) -> Header
     ensures { result ≡ old_turned header }
 {
     match ask_old(header) {
-        Goes::Yes => old_header(header),
-        Goes::Refused(_) => header,
+        Ok(()) => old_header(header),
+        Err(_) => header,
     }
 }
 
@@ -106,18 +100,11 @@ fn is_of(header: Header, minor: u8, one: u8, other: u8) -> bool
 }
 
 // Whether there are EVLRs or a waveform start.
+#[tactic(auto, unfolding(crate::specs::Turned::beside))]
 fn is_beside(header: Header) -> bool
     ensures { result ≡ beside header }
 {
-    let start = header.start_of_waveform_data_packet_record;
-    let evlr = header.evlr;
-    if let OptionU64::Some(_) = start {
-        return true;
-    }
-    if let OptionEvlr::Some(_) = evlr {
-        return true;
-    }
-    false
+    header.start_of_waveform_data_packet_record.is_some() || header.evlr.is_some()
 }
 
 // The 1.4 header where its fields have room: 148 bytes more before the points, two more in each record, and the counts as large ones.
@@ -134,7 +121,7 @@ fn new_header(header: Header) -> Header
         record_length: header.point_data_record_length + 2,
     };
     let large_file = LargeFile {
-        number_of_point_records: wide(header.number_of_point_records),
+        number_of_point_records: header.number_of_point_records as u64,
         number_of_points_by_return: fifteen(by_return),
     };
     changed(header, places, 0, [0; 5], true, large_file)
@@ -208,8 +195,8 @@ fn changed(
         max_z: header.max_z,
         min_z: header.min_z,
         nans,
-        start_of_waveform_data_packet_record: OptionU64::None,
-        evlr: OptionEvlr::None,
+        start_of_waveform_data_packet_record: None,
+        evlr: None,
         has_large_file,
         large_file,
     }
@@ -263,36 +250,16 @@ fn counts_fit(header: Header) -> bool
 
 // Whether none of five counts is over 2^32 - 1.
 fn five_fit(xs: [u64; 5]) -> bool
-    ensures { result ≡ every fits32 xs }
+    ensures { result ≡ list_all fits32 xs }
 {
-    (xs[0] < 4294967296)
-        & (xs[1] < 4294967296)
-        & (xs[2] < 4294967296)
-        & (xs[3] < 4294967296)
-        & (xs[4] < 4294967296)
+    xs.iter().all(|x| *x < 4294967296)
 }
 
 // Whether the large counts of returns 6 to 15 are zero.
 fn no_more(xs: [u64; 15]) -> bool
-    ensures { result ≡ every is_zero (drop 5 xs) }
+    ensures { result ≡ list_all is_zero (drop 5 xs) }
 {
-    (xs[5] == 0)
-        & (xs[6] == 0)
-        & (xs[7] == 0)
-        & (xs[8] == 0)
-        & (xs[9] == 0)
-        & (xs[10] == 0)
-        & (xs[11] == 0)
-        & (xs[12] == 0)
-        & (xs[13] == 0)
-        & (xs[14] == 0)
-}
-
-// A count, as a large one.
-fn wide(n: u32) -> u64
-    ensures { result ≡ n }
-{
-    n as u64
+    xs[5..].iter().all(|x| *x == 0)
 }
 
 // Five counts, as large ones.
@@ -310,7 +277,7 @@ fn widened(xs: [u32; 5]) -> [u64; 5]
 
 // Five counts that fit, as legacy ones.
 fn narrowed(xs: [u64; 5]) -> [u32; 5]
-    requires { every fits32 xs ≡ true }
+    requires { list_all fits32 xs ≡ true }
     ensures { result ≡ xs }
 {
     [

@@ -1,25 +1,22 @@
 -- The bytes of a header, field by field: document 01, "Record layouts".
+use Rattle.std.specs.Prelude.{Option, Some, None}
 use Rattle.std.specs.Prelude.{ℕ, List}
 use Rattle.fields.specs.Table.{joined}
 use Rattle.header.specs.declared.Header.{Header}
 use Rattle.header.specs.declared.Evlr.{Evlr}
-use Rattle.header.specs.declared.OptionU64.{OptionU64}
-use Rattle.header.specs.declared.OptionU64.TheVariants as start
-use Rattle.header.specs.declared.OptionEvlr.{OptionEvlr}
-use Rattle.header.specs.declared.OptionEvlr.TheVariants as pair
 use Rattle.header.specs.Kinds.{Value, bytes_of}
 use Rattle.header.specs.Layout.{Field, FileSignature, FileSourceId, GlobalEncoding, Guid, VersionMajor, VersionMinor, SystemIdentifier, GeneratingSoftware, FileCreationDayOfYear, FileCreationYear, HeaderSize, OffsetToPointData, NumberOfVariableLengthRecords, PointDataRecordFormat, PointDataRecordLength, LegacyNumberOfPointRecords, LegacyNumberOfPointsByReturn, XScaleFactor, YScaleFactor, ZScaleFactor, XOffset, YOffset, ZOffset, MaxX, MinX, MaxY, MinY, MaxZ, MinZ, StartOfWaveformDataPacketRecord, StartOfFirstEvlr, NumberOfEvlrs, NumberOfPointRecords, NumberOfPointsByReturn, kind, fields_of}
 use Rattle.header.specs.Header.{lasf, large_back}
 
 -- none is written as 0
-abbrev pub start_back : OptionU64 → ℕ
-start_back (start.Some n) = n
-start_back start.None = 0
+abbrev pub start_back : Option ℕ → ℕ
+start_back (Some n) = n
+start_back None = 0
 
 -- "none is written as two zeros"
-abbrev pub evlr_back : OptionEvlr → Evlr
-evlr_back (pair.Some e) = e
-evlr_back pair.None = record { start_of_first_evlr = 0; number_of_evlrs = 0 }
+abbrev pub evlr_back : Option Evlr → Evlr
+evlr_back (Some e) = e
+evlr_back None = record { start_of_first_evlr = 0; number_of_evlrs = 0 }
 
 -- what a header holds in each field
 abbrev pub value_of : Header → (f : Field) → Value (kind f)

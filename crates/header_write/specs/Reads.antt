@@ -1,4 +1,6 @@
 -- Whatever the reader answers is readable: a header that bytes hold.
+use Rattle.std.specs.Prelude.{Ok}
+use Rattle.header.specs.Whole.{whole_of}
 use Rattle.std.specs.Prelude.{ℕ, ◌+◌, ◌-◌, ◌^◌, ◌≤◌, ◌<◌, ◌≡◌, Bool, cond, List, [], take, drop}
 use Rattle.std.proofs.Math.Path.{refl, ap, subst}
 use Rattle.std.proofs.Common.{sym, ◌∙◌, ⊎_elim, add-sub_of_le, arith, length-drop, length-take-le}
@@ -9,13 +11,12 @@ use Rattle.le.specs.Le.{Bytes}
 use Rattle.le.specs.Laws.{bytes_take, num-lt, num_past}
 use Rattle.fields.specs.Table.{All, none, ◌&◌}
 use Rattle.fields.specs.Laws.{zipped, both, within as lie-within}
-use Rattle.header.specs.declared.HeaderAnswer.TheVariants.{Whole}
 use Rattle.header.specs.Kinds.{Fits}
 use Rattle.header.specs.Layout.{Field, VersionMinor, HeaderSize, StartOfWaveformDataPacketRecord, StartOfFirstEvlr, NumberOfEvlrs, NumberOfPointRecords, NumberOfPointsByReturn, place, kind, width, fields12, fields14, fields_of, size}
 use Rattle.header.specs.Header.{number, start_of, evlr_of, large_read, no_large, header_of}
-use Rattle.header.specs.Judged.{padded_to, judged, read_of, padding_of}
+use Rattle.header.specs.Judged.{padded_to, judged, header_in, padding_of}
 use Rattle.header.specs.Laws.{accepted, within, size-least, short_12, short_13}
-use Rattle.header.specs.Answers.{Block, read_whole, padding-whole, number-block, block-of}
+use Rattle.header.specs.Answers.{Block, header_whole, padding-whole, number-block, block-of}
 use Rattle.header.specs.Values.{value-fits, numbers_fit, nums_past}
 use Rattle.header_write.specs.Bytes.{evlr_back, value_of}
 use Rattle.header_write.specs.Back.{start_kept, pair_back, same_12}
@@ -69,8 +70,8 @@ module _ (b padding : List ℕ) (bs : Bytes b) (k : Block b) where
       }
 
 -- so whatever is accepted is read as one
-module _ (s : List ℕ) (bytes : Bytes s) {n e : ℕ} (p : judged s ≡ Whole n e) where
-  pub readable : Readable (read_of s).header (padding_of s)
+module _ (s : List ℕ) (bytes : Bytes s) {n e : ℕ} (p : judged s ≡ Ok (whole_of n e)) where
+  pub readable : Readable (header_in s) (padding_of s)
   readable =
       let w = within s p in
       let b = take n s in
@@ -79,4 +80,4 @@ module _ (s : List ℕ) (bytes : Bytes s) {n e : ℕ} (p : judged s ≡ Whole n 
       let fills : size (fields_of (number VersionMinor b)) ≡ n = sym k.fills ∙ length-take-le n s (omega (arith, w.1, w.2)) in
       let end : padded_to (size (fields_of (number VersionMinor b))) (number HeaderSize b) ≡ size (fields_of (number VersionMinor b)) + length (take (e - n) (drop n s)) =
       (λ i. padded_to (fills i) (number-block s p HeaderSize (omega (arith, w.0)) i)) ∙ sym (accepted s p).end ∙ rw (fills, pad) (sym (add-sub_of_le w.1)) in
-      rw (read_whole s p, padding-whole s p) (readable-block b (take (e - n) (drop n s)) (bytes_take n s bytes) k end)
+      rw (header_whole s p, padding-whole s p) (readable-block b (take (e - n) (drop n s)) (bytes_take n s bytes) k end)

@@ -1,4 +1,6 @@
 -- A header that is written and read again.
+use Rattle.std.specs.Prelude.{Ok}
+use Rattle.header.specs.Whole.{whole_of}
 use Rattle.std.specs.Prelude.{ℕ, ◌+◌, ◌≤◌, ◌<◌, ◌≡◌, refl, leb, take}
 use Rattle.std.proofs.Math.Path.{sym, ap}
 use Rattle.std.proofs.Common.{◌∙◌, arith, length-append, take_at, drop_at}
@@ -9,12 +11,10 @@ use Rattle.std.proofs.Math.Dec.{eqb}
 use Rattle.std.proofs.Math.ListN.{length, drop}
 use Rattle.le.specs.Le.{num}
 use Rattle.le.specs.Laws.{num_past, num-take}
-use Rattle.lent.specs.declared.Wrote.TheVariants.{Bytes}
 use Rattle.lent.specs.Laws.{passed, answered}
 use Rattle.fields.specs.Table.{All, none, ◌&◌}
 use Rattle.fields.specs.Laws.{Wide, mapped, zipped, split, length-joined, parts-joined}
 use Rattle.header.specs.declared.Header.{Header}
-use Rattle.header.specs.declared.HeaderAnswer.TheVariants.{Whole}
 use Rattle.header.specs.Layout.{Field, FileSignature, VersionMajor, VersionMinor, HeaderSize, StartOfWaveformDataPacketRecord, StartOfFirstEvlr, NumberOfEvlrs, place, kind, width, fields12, fields13, fields14, fields_of, size, large}
 use Rattle.header.specs.Header.{part, number, value, start_of, evlr_of, nans_of, large_read, header_of, lasf}
 use Rattle.header.specs.Judged.{padded_to, judged, read_of, padding_of}
@@ -158,7 +158,7 @@ module _ (h : Header) (padding : List ℕ) (r : Readable h padding) where
     unfolding header_of
     field-first = number-first HeaderSize (omega arith) ∙ ap (λ (x : Header). x.header_size) header_again.0
 
-    judged_again : judged written ≡ Whole end (end + length padding)
+    pub judged_again : judged written ≡ Ok (whole_of end (end + length padding))
     unfolding header_of
     judged_again =
         whole written
@@ -172,8 +172,8 @@ module _ (h : Header) (padding : List ℕ) (r : Readable h padding) where
           end = sym (ap (padded_to end) field-first ∙ r.end);
         })
 
-    pub read_again : read_of written ≡ record { answer = Whole end (end + length padding); header = h }
-    read_again = read_whole written judged_again ∙ λ i. record { answer = Whole end (end + length padding); header = (ap header_of block-first ∙ header_again.0) i }
+    pub read_again : read_of written ≡ Ok h
+    read_again = read_whole written judged_again ∙ ap Ok (ap header_of block-first ∙ header_again.0)
 
     pub padding_again : padding_of written ≡ padding
     padding_again =
@@ -182,19 +182,22 @@ module _ (h : Header) (padding : List ℕ) (r : Readable h padding) where
         (take_at padding rest (length padding) refl)
 
   -- where there is room, the writer answers the count and leaves the rest
-  pub with_room : (d : List ℕ) → size (fields_of h.version.minor) + length padding ≤ length d → let n = size (fields_of h.version.minor) + length padding in wrote_of h padding d ≡ (Bytes n, (block h ++ padding) ++ drop n d)
+  pub with_room : (d : List ℕ) → size (fields_of h.version.minor) + length padding ≤ length d → let n = size (fields_of h.version.minor) + length padding in wrote_of h padding d ≡ (Ok n, (block h ++ padding) ++ drop n d)
   unfolding wrote_of wrote_by
   with_room d room = rw (standard_is h.version r.major r.minor, le-leb _ _ room)
 
   -- what a write leaves that is answered with a count
-  wrote : (d d' : List ℕ) {m : ℕ} → wrote_of h padding d ≡ (Bytes m, d') → (m ≡ size (fields_of h.version.minor) + length padding) × (d' ≡ (block h ++ padding) ++ drop m d)
+  wrote : (d d' : List ℕ) {m : ℕ} → wrote_of h padding d ≡ (Ok m, d') → (m ≡ size (fields_of h.version.minor) + length padding) × (d' ≡ (block h ++ padding) ++ drop m d)
   unfolding wrote_of wrote_by
   wrote d d' p =
       let room = passed (leb (size (fields_of h.version.minor) + length padding) (length d)) _ _ _ (rw (standard_is h.version r.major r.minor) at p) in
       let left = answered room.1 in
       (left.0, left.1 ∙ ap (λ (k : ℕ). (block h ++ padding) ++ drop k d) (sym left.0))
 
-  pub written_again : (d d' : List ℕ) {m : ℕ} → wrote_of h padding d ≡ (Bytes m, d') → (read_of d' ≡ record { answer = Whole (size (fields_of h.version.minor)) m; header = h }) × (padding_of d' ≡ padding)
+  pub written_again : (d d' : List ℕ) {m : ℕ} → wrote_of h padding d ≡ (Ok m, d') → (judged d' ≡ Ok (whole_of (size (fields_of h.version.minor)) m)) × (read_of d' ≡ Ok h) × (padding_of d' ≡ padding)
   written_again d d' {m} p =
-      let w = wrote d d' p in
-      (ap read_of w.1 ∙ read_again (drop m d) ∙ λ i. record { answer = Whole (size (fields_of h.version.minor)) (sym w.0 i); header = h }, ap padding_of w.1 ∙ padding_again (drop m d))
+      let w = wrote d d' p in (
+        ap judged w.1 ∙ judged_again (drop m d) ∙ ap (λ (k : ℕ). Ok (whole_of (size (fields_of h.version.minor)) k)) (sym w.0),
+        ap read_of w.1 ∙ read_again (drop m d),
+        ap padding_of w.1 ∙ padding_again (drop m d),
+      )

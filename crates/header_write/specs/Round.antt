@@ -1,4 +1,6 @@
 -- An accepted list, read and written back, from its block and its padding.
+use Rattle.std.specs.Prelude.{Ok}
+use Rattle.header.specs.Whole.{whole_of}
 use Rattle.std.specs.Prelude.{ℕ, ◌+◌, ◌-◌, ◌≤◌, ◌≡◌, ◌⊎◌, List, ◌++◌, take, drop, replicate}
 use Rattle.std.proofs.Common.{sym, ap, ◌∙◌, append_assoc, add-sub_of_le, take-add}
 use native.Mathlib.Omega.{arith}
@@ -8,13 +10,11 @@ use Rattle.std.proofs.Math.Seq.{length-take-le}
 use Rattle.std.proofs.lemmas.List.{take-append-le, drop-append-le}
 use Rattle.le.specs.Le.{Bytes}
 use Rattle.le.specs.Laws.{bytes_take}
-use Rattle.lent.specs.declared.Wrote.TheVariants as wrote
-use Rattle.header.specs.declared.HeaderAnswer.TheVariants.{Whole}
 use Rattle.header.specs.Layout.{VersionMinor, StartOfFirstEvlr, NumberOfEvlrs, size, fields_of}
 use Rattle.header.specs.Header.{number, header_of}
-use Rattle.header.specs.Judged.{judged, read_of, padding_of}
+use Rattle.header.specs.Judged.{judged, header_in, padding_of}
 use Rattle.header.specs.Laws.{accepted, within, standard-of}
-use Rattle.header.specs.Answers.{read_whole, padding-whole, version_read, number-block, block-of}
+use Rattle.header.specs.Answers.{header_whole, padding-whole, version_read, number-block, block-of}
 use Rattle.header_write.specs.Bytes.{block}
 use Rattle.header_write.specs.Wrote.{wrote_by, wrote_of}
 use Rattle.header_write.specs.Back.{Paired, block_back, block_half}
@@ -25,7 +25,7 @@ cleared_then b p zeros h =
     let enough : 235 ≤ length b = omega arith in
     rw (append_assoc (take 235 b) (zeros ++ drop 247 b) p, append_assoc zeros (drop 247 b) p, take-append-le 235 b p, drop-append-le 247 b p)
 
-module _ (s : List ℕ) (bytes : Bytes s) {n e : ℕ} (p : judged s ≡ Whole n e) where
+module _ (s : List ℕ) (bytes : Bytes s) {n e : ℕ} (p : judged s ≡ Ok (whole_of n e)) where
   -- the numbers of the block are those of the list
   minor_same : number VersionMinor (take n s) ≡ number VersionMinor s
   minor_same = number-block s p VersionMinor (omega (arith, (within s p).0))
@@ -41,20 +41,20 @@ module _ (s : List ℕ) (bytes : Bytes s) {n e : ℕ} (p : judged s ≡ Whole n 
     count_same = number-block s p NumberOfEvlrs (omega (arith, large))
 
   -- what is written back is the block and the padding
-  read_back : {b : List ℕ} → block (header_of (take n s)) ≡ b → block (read_of s).header ++ padding_of s ≡ b ++ take (e - n) (drop n s)
-  read_back q = rw (read_whole s p, padding-whole s p, q)
+  read_back : {b : List ℕ} → block (header_of (take n s)) ≡ b → block (header_in s) ++ padding_of s ≡ b ++ take (e - n) (drop n s)
+  read_back q = rw (header_whole s p, padding-whole s p, q)
 
   whole-list : take n s ++ take (e - n) (drop n s) ≡ take e s
   whole-list = sym (take-add n (e - n) s) ∙ ap (λ (k : ℕ). take k s) (add-sub_of_le (within s p).1)
 
-  pub same_bytes : (number VersionMinor s ≡ 4 → Paired (number StartOfFirstEvlr s) (number NumberOfEvlrs s)) → block (read_of s).header ++ padding_of s ≡ take e s
+  pub same_bytes : (number VersionMinor s ≡ 4 → Paired (number StartOfFirstEvlr s) (number NumberOfEvlrs s)) → block (header_in s) ++ padding_of s ≡ take e s
   same_bytes paired =
       read_back
       (block_back (take n s) (bytes_take n s bytes) (block-of s p)
       (λ four. let f = sym minor_same ∙ four in rw (start-same f, count_same f) (paired f)))
       ∙ whole-list
 
-  pub half_zero : number VersionMinor s ≡ 4 → (number StartOfFirstEvlr s ≡ 0) ⊎ (number NumberOfEvlrs s ≡ 0) → block (read_of s).header ++ padding_of s ≡ take 235 (take e s) ++ (replicate 12 0 ++ drop 247 (take e s))
+  pub half_zero : number VersionMinor s ≡ 4 → (number StartOfFirstEvlr s ≡ 0) ⊎ (number NumberOfEvlrs s ≡ 0) → block (header_in s) ++ padding_of s ≡ take 235 (take e s) ++ (replicate 12 0 ++ drop 247 (take e s))
   half_zero four half =
       let long : 247 ≤ length (take n s) =
       omega (arith, large four, length-take-le n s (omega (arith, (within s p).1, (within s p).2))) in
@@ -65,7 +65,7 @@ module _ (s : List ℕ) (bytes : Bytes s) {n e : ℕ} (p : judged s ≡ Whole n 
       ∙ ap (λ (l : List ℕ). take 235 l ++ (replicate 12 0 ++ drop 247 l)) whole-list
 
   -- the answer and the buffer, where there is room
-  pub written_back : (d : List ℕ) {bs : List ℕ} → block (read_of s).header ++ padding_of s ≡ bs → e ≤ length d → wrote_of (read_of s).header (padding_of s) d ≡ (wrote.Bytes e, bs ++ drop e d)
+  pub written_back : (d : List ℕ) {bs : List ℕ} → block (header_in s) ++ padding_of s ≡ bs → e ≤ length d → wrote_of (header_in s) (padding_of s) d ≡ (Ok e, bs ++ drop e d)
   unfolding wrote_of wrote_by
   written_back d q room =
       let w = within s p in

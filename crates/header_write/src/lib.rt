@@ -13,37 +13,35 @@ ghost use Rattle.header.specs.Judged.{standard_of};
 ghost use Rattle.header_write.specs.Bytes.{start_back, evlr_back, field_bytes};
 ghost use Rattle.header_write.specs.Wrote.{wrote_by, wrote_of};
 
-use header::{Evlr, Header, LargeFile, OptionEvlr, OptionU64, StandardSize};
-use le::float;
+use header::{Evlr, Header, LargeFile};
 use le::float::F64;
-use lent::Wrote;
 use refusal::Refusal;
 
 // Writes the header's block and then `padding`, whatever its header-size field says, and leaves what lies past them.
 // Refused with 3, then with 22, it writes nothing.
-pub fn write_to(header: Header, padding: &[u8], dst: &mut [u8]) -> Wrote
+pub fn write_to(header: Header, padding: &[u8], dst: &mut [u8]) -> Result<usize, Refusal>
     ensures { (result, dst.new) ≡ wrote_of header padding.now dst.old }
 {
     let version = header.version;
     match version.header_size() {
-        StandardSize::Is(n) => write_sized(header, n, padding, dst),
-        StandardSize::Refused(refusal) => Wrote::Refused(refusal),
+        Ok(n) => write_sized(header, n, padding, dst),
+        Err(refusal) => Err(refusal),
     }
 }
 
 // The header's block of `n` bytes and then `padding`, or 22.
-fn write_sized(h: Header, n: u16, padding: &[u8], dst: &mut [u8]) -> Wrote
-    requires { StandardSize.Is n ≡ standard_of h.version }
-    ensures { (result, dst.new) ≡ wrote_by (StandardSize.Is n) h padding.now dst.old }
+fn write_sized(h: Header, n: u16, padding: &[u8], dst: &mut [u8]) -> Result<usize, Refusal>
+    requires { Ok n ≡ standard_of h.version }
+    ensures { (result, dst.new) ≡ wrote_by (Ok n) h padding.now dst.old }
 {
     let size = n as usize;
     let wanted = size + padding.len();
     if dst.len() < wanted {
-        return Wrote::Refused(Refusal::NoRoom(wanted as u64));
+        return Err(Refusal::NoRoom(wanted as u64));
     }
     write_block(h, dst);
-    lent::put(&mut dst[size..], padding);
-    Wrote::Bytes(wanted)
+    dst[size..wanted].copy_from_slice(padding);
+    Ok(wanted)
 }
 
 // Each field of the header's version at its place.
@@ -130,22 +128,22 @@ fn write_large(h: Header, dst: &mut [u8])
 }
 
 // What may be missing, as it is written: no waveform start as 0.
-pub fn start_back(start: OptionU64) -> u64
+pub fn start_back(start: Option<u64>) -> u64
     ensures { result ≡ start_back start }
 {
     match start {
-        OptionU64::Some(n) => n,
-        OptionU64::None => 0,
+        Some(n) => n,
+        None => 0,
     }
 }
 
 // No EVLRs as two zeros.
-pub fn evlr_back(evlr: OptionEvlr) -> Evlr
+pub fn evlr_back(evlr: Option<Evlr>) -> Evlr
     ensures { result ≡ evlr_back evlr }
 {
     match evlr {
-        OptionEvlr::Some(pair) => pair,
-        OptionEvlr::None => Evlr {
+        Some(pair) => pair,
+        None => Evlr {
             start_of_first_evlr: 0,
             number_of_evlrs: 0,
         },
@@ -169,15 +167,15 @@ pub fn large_back(has_large_file: bool, large_file: LargeFile) -> LargeFile
 fn set_f64(d: &mut [u8], at: usize, value: f64, nan: u64)
     ensures { d.new ≡ sets d.old at (bytes 8 (f64_bits_of (record { value = value; nan = nan }))) }
 {
-    store::set_u64(d, at, float::f64_bits(F64 { value, nan }))
+    store::set_u64(d, at, F64 { value, nan }.to_bits())
 }
 
 // Stores the legacy counts by return, and tells how many there are.
 fn set_by_return(d: &mut [u8], xs: [u32; 5])
     ensures { (d.new ≡ sets d.old (place LegacyNumberOfPointsByReturn) (joined (bytes 4) xs)) × (length xs ≡ 5) }
 {
-    for i in 0..5 {
-        store::set_u32(d, 111 + 4 * i, xs[i]);
+    for (i, count) in xs.iter().enumerate() {
+        store::set_u32(d, 111 + 4 * i, *count);
     }
 }
 
@@ -185,7 +183,7 @@ fn set_by_return(d: &mut [u8], xs: [u32; 5])
 fn set_large_by_return(d: &mut [u8], xs: [u64; 15])
     ensures { (d.new ≡ sets d.old (place NumberOfPointsByReturn) (joined (bytes 8) xs)) × (length xs ≡ 15) }
 {
-    for i in 0..15 {
-        store::set_u64(d, 255 + 8 * i, xs[i]);
+    for (i, count) in xs.iter().enumerate() {
+        store::set_u64(d, 255 + 8 * i, *count);
     }
 }

@@ -1,4 +1,7 @@
 -- One record of a run, and the rest of it: a turn of the judge.
+use Rattle.std.specs.Prelude.{Result, Ok}
+use Rattle.refusal.specs.declared.Refused.{Refused}
+use Rattle.refusal.specs.declared.Refusal.{Refusal}
 use Prim.Native.Nat.{ℕ, zero, suc, ◌+◌, ◌-◌, ◌<◌}
 use mathlib.Core.Path.{◌≡◌, sym, ◌∙◌}
 use mathlib.Core.List.{List}
@@ -7,10 +10,7 @@ use lib.ListN.{take, drop}
 use lib.Seq.{drop-drop}
 use Rattle.format.specs.declared.Format.{Format}
 use Rattle.point.specs.Read.{point_of}
-use Rattle.strict.specs.declared.Fit.{Fit}
 use Rattle.strict.specs.Fit.{fit_of}
-use Rattle.judge.specs.declared.Judged.{Judged}
-use Rattle.judge.specs.declared.Judged.TheVariants.{Fits}
 use Rattle.judge.specs.Judge.{judged_by, judge_run}
 
 module _ (f : Format) (m : ℕ) (s : List ℕ) where
@@ -23,13 +23,10 @@ module _ (f : Format) (m : ℕ) (s : List ℕ) where
       rw (e, cut, drop-drop m at s)
 
   -- `x` is what is said of the record, `w` what is to be said of the run
-  pub judge_turn : (number at left : ℕ) {x : Fit} {w : Judged} → 0 < left → x ≡ fit_of (point_of f (take (at + m - at) (drop at s))) → judge_run f m number left (drop at s) ≡ w → judged_by x number (judge_run f m (number + 1) (left - 1) (drop (at + m) s)) ≡ w
+  pub judge_turn : (number at left : ℕ) {x : Result Unit Refusal} {w : Result Unit Refused} → 0 < left → x ≡ fit_of (point_of f (take (at + m - at) (drop at s))) → judge_run f m number left (drop at s) ≡ w → judged_by x number (judge_run f m (number + 1) (left - 1) (drop (at + m) s)) ≡ w
   judge_turn number at left h e w = rw e (sym (judge-step number at left h) ∙ w)
 
   -- no record is left
-  pub none_left : (number : ℕ) (t : List ℕ) {w : Judged} → judge_run f m number 0 t ≡ w → Fits ≡ w
+  pub none_left : (number : ℕ) (t : List ℕ) {w : Result Unit Refused} → judge_run f m number 0 t ≡ w → (Ok tt) ≡ w
   unfolding judge_run
   none_left number t e = e
-
-pub first-number : (f : Format) (m count : ℕ) (s : List ℕ) → judge_run f m (count - count + 1) count s ≡ judge_run f m 1 count s
-first-number f m count s = let e : count - count + 1 ≡ 1 = omega arith in rw e

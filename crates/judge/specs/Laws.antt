@@ -1,65 +1,58 @@
 -- What decides of a record, and what a run is that is judged to fit.
-use Rattle.std.specs.Prelude.{ℕ, ◌*◌, ◌≤◌, Bool, List, length}
+use Rattle.std.specs.Prelude.{Result, Ok, Err, ℕ, ◌*◌, ◌≤◌, Bool, List, length}
+use Rattle.refusal.specs.Refused.{at_record}
+use Rattle.refusal.specs.declared.Refused.{Refused}
+use Rattle.judge.specs.declared.Run.{Run}
+use Rattle.point.specs.declared.marks.Marks.{Marks}
+use Rattle.point.specs.declared.Point.{Point}
 use Rattle.std.proofs.Math.Path.{◌≡◌, refl}
 use Rattle.std.proofs.Math.Bool.{true, false, cond}
 use Rattle.std.proofs.Common.{arith}
 use borrow.Author.Tests.{ltb-false}
 use Rattle.std.proofs.Math.Dec.{ltb}
 use Rattle.refusal.specs.declared.Refusal.{Refusal}
-use Rattle.point.specs.declared.PointRead.{PointRead}
-use Rattle.point.specs.declared.PointRead.TheVariants as read
-use Rattle.point.specs.declared.marks.MarksRead.{MarksRead}
-use Rattle.point.specs.declared.marks.MarksRead.TheVariants as marks
 use Rattle.point.specs.Marks.{marks_read}
-use Rattle.strict.specs.declared.Fit.{Fit}
-use Rattle.strict.specs.declared.Fit.TheVariants as fit
 use Rattle.strict.specs.Fit.{fields_fit, fit_of}
 use Rattle.pairs.specs.declared.Plan.{Plan}
-use Rattle.pairs.specs.declared.Planned.{Planned}
-use Rattle.pairs.specs.declared.Planned.TheVariants as planned
 use Rattle.pairs.specs.Pairs.{old_pair, new_pair, planned_by}
 use Rattle.pairs.specs.Sound.{Sound, PlannedSound, old_planned, new_planned}
-use Rattle.judge.specs.declared.Judged.{Judged}
-use Rattle.judge.specs.declared.Judged.TheVariants as judged
-use Rattle.judge.specs.declared.Verdict.{Verdict}
-use Rattle.judge.specs.declared.Verdict.TheVariants as verdict
 use Rattle.judge.specs.Judge.{fit_read, records_of, judged_of, verdict_on, verdict_by, old_verdict, new_verdict}
 
 -- a record's marks are enough to judge it
-abbrev pub fit_marks : MarksRead → Fit
-fit_marks (marks.Is m) = fields_fit m.flags m.nir m.scan_angle
-fit_marks (marks.Refused r) = fit.Refused r
+abbrev pub fit_marks : Result Marks Refusal → Result Unit Refusal
+fit_marks (Ok m) = fields_fit m.flags m.nir m.scan_angle
+fit_marks (Err r) = Err r
 
-pub marks_enough : (x : PointRead) → fit_marks (marks_read x) ≡ fit_read x
+pub marks_enough : (x : Result Point Refusal) → fit_marks (marks_read x) ≡ fit_read x
 unfolding fit_of
-marks_enough (read.Is p) = refl
-marks_enough (read.Refused r) = refl
+marks_enough (Ok p) = refl
+marks_enough (Err r) = refl
 
 module _ (up : Bool) (p : Plan) (count : ℕ) (s : List ℕ) where
   pub record Goes : Type 0 where
     pub there : count * p.source_length ≤ length s
-    pub records : records_of up p count s ≡ judged.Fits
+    pub records : records_of up p count s ≡ Ok tt
 
-  pub goes : judged_of up p count s ≡ judged.Fits → Goes
+  pub goes : judged_of up p count s ≡ Ok tt → Goes
   unfolding judged_of
   goes = go (ltb (length s) (count * p.source_length)) refl _
     where
-      go : (x : Bool) → ltb (length s) (count * p.source_length) ≡ x → (a : Refusal) → cond x (judged.Refused a 0) (records_of up p count s) ≡ judged.Fits → Goes
+      go : (x : Bool) → ltb (length s) (count * p.source_length) ≡ x → (a : Refusal) → cond x (Err (at_record a 0)) (records_of up p count s) ≡ Ok tt → Goes
       go false f a e = record { there = ltb-false _ _ f; records = e }
       go true f a e = let z : ◌≡◌ {A = ℕ} 0 1 = cc in absurd (omega arith)
 
 -- what a verdict leaves to the writing: a plan that it names is sound, the run goes by it, and it needs so many bytes
-abbrev pub Ready : Bool → ℕ → List ℕ → Verdict → Type 0
-Ready up count s (verdict.Goes p n) = Sound up p × Goes up p count s × (n ≡ count * p.target_length)
-Ready up count s (verdict.Refused r number) = Unit
+abbrev pub Ready : Bool → ℕ → List ℕ → Result Run Refused → Type 0
+Ready up count s (Ok run) = Sound up run.plan × Goes up run.plan count s × (run.bytes ≡ count * run.plan.target_length)
+Ready up count s (Err err) = Unit
 
-ready : (up : Bool) (count : ℕ) (s : List ℕ) (x : Planned) → PlannedSound up x → Ready up count s (verdict_by up count s x)
-ready up count s (planned.Refused r) sound = tt
-ready up count s (planned.Is p) sound = go (judged_of up p count s) refl
+ready : (up : Bool) (count : ℕ) (s : List ℕ) (x : Result Plan Refusal) → PlannedSound up x → Ready up count s (verdict_by up count s x)
+ready up count s (Err r) sound = tt
+ready up count s (Ok p) sound = go (judged_of up p count s) refl
   where
-    go : (x : Judged) → judged_of up p count s ≡ x → Ready up count s (verdict_on p count x)
-    go judged.Fits e = (sound, goes up p count s e, refl)
-    go (judged.Refused r number) e = tt
+    go : (x : Result Unit Refused) → judged_of up p count s ≡ x → Ready up count s (verdict_on p count x)
+    go (Ok _) e = (sound, goes up p count s e, refl)
+    go (Err err) e = tt
 
 module _ (format extra count : ℕ) (s : List ℕ) where
   pub old_ready : Ready false count s (old_verdict format extra count s)

@@ -1,4 +1,5 @@
 -- definitions
+pub mod Run
 pub mod Judge
 -- laws
 pub mod Laws

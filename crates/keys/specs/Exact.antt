@@ -1,13 +1,14 @@
 -- When a key's value is given, and when it is refused: document 02, No. 14, "Refusals, in order, each over the whole directory: file check; no
 -- directory; directory short; keys not rising; unknown location; target record absent; target beyond its end; key not found."
+use Rattle.std.specs.Prelude.{Option, Some, None, Ok, Err}
+use Rattle.rules.specs.NotAccepted.{not_accepted}
+use Rattle.first_vlr.specs.Span.{span}
+use Rattle.first_vlr.specs.declared.Span.{Span}
 use Rattle.std.specs.Prelude.{ℕ, ◌+◌, ◌*◌, ◌≤◌, ◌<◌, ◌≡◌, true, false, cond, List, eqb, length, take, drop}
 use Rattle.refusal.specs.declared.Refusal.{Refusal}
 use Rattle.refusal.specs.declared.Refusal.TheVariants.{NoDirectory, DirectoryShort, KeysNotRising, UnknownLocation, TargetAbsent, TargetBeyond, KeyNotFound}
-use Rattle.rules.specs.declared.Checked.TheVariants as checked
 use Rattle.file.specs.Rules.{checked_of}
 use Rattle.cursor.specs.Parts.{outline_in}
-use Rattle.first_vlr.specs.declared.FirstVlr.{FirstVlr}
-use Rattle.first_vlr.specs.declared.FirstVlr.TheVariants as first
 use Rattle.directory.specs.declared.Entry.{Entry}
 use Rattle.directory.specs.declared.Question.{Question}
 use Rattle.directory.specs.declared.Question.TheVariants.{Rising, Known, There, Within}
@@ -18,7 +19,7 @@ use Rattle.keys.specs.Keys.{projection_of, target_of, start_of}
 
 module _ (s : List ℕ) where
   -- the first VLR of LASF_Projection with a record id
-  abbrev pub record_in : ℕ → FirstVlr
+  abbrev pub record_in : ℕ → Option Span
   record_in id = projection_of (outline_in s) id s
 
   -- each entry of a directory passes, and one does not
@@ -40,13 +41,13 @@ module _ (s : List ℕ) where
 -- what is passed, one after the other
 module _ (allowance : ℕ) (s : List ℕ) where
   abbrev pub Accepted : Type 0
-  Accepted = (n : ℕ) × (checked_of allowance s ≡ checked.Accepted n)
+  Accepted = (n : ℕ) × (checked_of allowance s ≡ Ok n)
 
   pub record Directory (d : List ℕ) : Type 0 where
     pub accepted : Accepted
     pub start : ℕ
     pub bytes : ℕ
-    pub found : record_in s 34735 ≡ first.At start bytes
+    pub found : record_in s 34735 ≡ Some (span start bytes)
     pub is : d ≡ take bytes (drop start s)
 
   abbrev pub Long : List ℕ → Type 0
@@ -66,8 +67,8 @@ module _ (allowance : ℕ) (s : List ℕ) where
 
   -- the refusals in their order
   pub data Unopened : Refusal → ℕ → Type 0 where
-    file_check : {why : Refusal} {j n : ℕ} → checked_of allowance s ≡ checked.Refused why j n → Unopened why j
-    no_directory : Accepted → record_in s 34735 ≡ first.Nothing → Unopened NoDirectory 0
+    file_check : {why : Refusal} {j n : ℕ} → checked_of allowance s ≡ Err (not_accepted why j n) → Unopened why j
+    no_directory : Accepted → record_in s 34735 ≡ None → Unopened NoDirectory 0
     directory_short : {d : List ℕ} → Directory d → length d < 8 + 8 * count_of d → Unopened DirectoryShort 0
     not_rising : {d : List ℕ} → Long d → Fails s Rising d → Unopened KeysNotRising 0
     unknown_location : {d : List ℕ} → Risen d → Fails s Known d → Unopened UnknownLocation 0

@@ -1,4 +1,5 @@
 -- definitions
+pub mod KeyValue
 pub mod Keys
 pub mod Exact
 -- laws

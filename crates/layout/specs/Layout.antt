@@ -1,22 +1,20 @@
 -- What `fields`, `places` and `Layout` show of the field table.
+use Rattle.std.specs.Prelude.{Option, Some}
+use Rattle.std.specs.Bool.{then_some}
 use Rattle.std.specs.Prelude.{ℕ, Bool, cond, List, [], ◌∷◌}
 use Rattle.format.specs.declared.Format.{Format}
 use Rattle.format.specs.declared.Field.{Field}
 use Rattle.format.specs.declared.Field.TheVariants.{X, Y, Z, Intensity, Flags, UserData, ScanAngle, PointSourceId, GpsTime, Color, Nir, Waveform, ExtraBytes}
 use Rattle.format.specs.Fields.{place_of, record_bytes}
-use Rattle.layout.specs.declared.Slot.{Slot}
-use Rattle.layout.specs.declared.Slot.TheVariants.{Some, None}
-use Rattle.layout.specs.declared.Place.{Place}
-use Rattle.layout.specs.declared.Place.TheVariants.{At, Missing}
 use Rattle.layout.specs.declared.Places.{Places}
 use Rattle.layout.specs.declared.Layout.{Layout}
 
 -- a field that may be missing
-unfoldable pub slot_of : Bool → Field → Slot
-slot_of b x = cond b (Some x) None
+unfoldable pub slot_of : Bool → Field → Option Field
+slot_of b x = then_some b x
 
 -- the thirteen fields in the standard's order, missing ones as empty slots
-unfoldable pub slots_of : Format → List Slot
+unfoldable pub slots_of : Format → List (Option Field)
 slots_of f =
     Some X ∷ Some Y ∷ Some Z ∷ Some Intensity ∷ Some Flags ∷
     Some (cond f.is_extended UserData ScanAngle) ∷
@@ -41,8 +39,8 @@ places_of f =
     }
 
 -- a place, where the format has the field
-unfoldable pub placed_of : Bool → ℕ → Place
-placed_of b at = cond b (At at) Missing
+unfoldable pub placed_of : Bool → ℕ → Option ℕ
+placed_of b at = then_some b at
 
 unfoldable pub layout_of : Format → Layout
 layout_of f =

@@ -1,13 +1,13 @@
-// Little-endian numbers in a slice of bytes. Every reader is total: a byte past the end counts as 0.
+// Little-endian numbers in a slice of bytes. Every reader is total: a byte past the end counts as 0. They are written by
+// std's `to_le_bytes`.
 #![tactic(auto)]
 
 pub mod float;
-pub mod signed;
 
 ghost use Rattle.std.specs.Prelude.{◌≡◌};
 ghost use Rattle.std.specs.Int.{w8, w16, w32};
 ghost use Rattle.std.proofs.Common.{to_z};
-ghost use Rattle.le.specs.Le.{num, bytes};
+ghost use Rattle.le.specs.Le.{num};
 ghost use Rattle.le.specs.Real.{f32_of, f64_of};
 
 use float::{F32, F64};
@@ -54,19 +54,19 @@ pub fn u64_at(s: &[u8], at: usize) -> u64
 pub fn i8_at(s: &[u8], at: usize) -> i8
     ensures { result ≡ to_z w8 (num 1 at s.now) }
 {
-    signed::signed8(u8_at(s, at))
+    u8_at(s, at).cast_signed()
 }
 
 pub fn i16_at(s: &[u8], at: usize) -> i16
     ensures { result ≡ to_z w16 (num 2 at s.now) }
 {
-    signed::signed16(u16_at(s, at))
+    u16_at(s, at).cast_signed()
 }
 
 pub fn i32_at(s: &[u8], at: usize) -> i32
     ensures { result ≡ to_z w32 (num 4 at s.now) }
 {
-    signed::signed32(u32_at(s, at))
+    u32_at(s, at).cast_signed()
 }
 
 // The same bytes as floats, every pattern kept.
@@ -74,45 +74,11 @@ pub fn i32_at(s: &[u8], at: usize) -> i32
 pub fn f32_at(s: &[u8], at: usize) -> F32
     ensures { result ≡ f32_of (num 4 at s.now) }
 {
-    float::f32_of(u32_at(s, at))
+    F32::from_bits(u32_at(s, at))
 }
 
 pub fn f64_at(s: &[u8], at: usize) -> F64
     ensures { result ≡ f64_of (num 8 at s.now) }
 {
-    float::f64_of(u64_at(s, at))
-}
-
-// A number's bytes, for writing.
-
-pub fn u16_bytes(x: u16) -> [u8; 2]
-    ensures { result ≡ bytes 2 x }
-{
-    [(x % 256) as u8, (x / 256 % 256) as u8]
-}
-
-pub fn u32_bytes(x: u32) -> [u8; 4]
-    ensures { result ≡ bytes 4 x }
-{
-    [
-        (x % 256) as u8,
-        (x / 256 % 256) as u8,
-        (x / 65536 % 256) as u8,
-        (x / 16777216 % 256) as u8,
-    ]
-}
-
-pub fn u64_bytes(x: u64) -> [u8; 8]
-    ensures { result ≡ bytes 8 x }
-{
-    [
-        (x % 256) as u8,
-        (x / 256 % 256) as u8,
-        (x / 65536 % 256) as u8,
-        (x / 16777216 % 256) as u8,
-        (x / 4294967296 % 256) as u8,
-        (x / 1099511627776 % 256) as u8,
-        (x / 281474976710656 % 256) as u8,
-        (x / 72057594037927936 % 256) as u8,
-    ]
+    F64::from_bits(u64_at(s, at))
 }

@@ -6,37 +6,28 @@ ghost use Rattle.lent.specs.Front.{front_of};
 
 use refusal::Refusal;
 
-// How many bytes were written, or why none were.
-#[derive(Clone, Copy)]
-pub enum Wrote {
-    Bytes(usize),
-    Refused(Refusal),
-}
-
 // Writes `src` to the front of `dst` and leaves what lies past it; where there is no room, nothing is written.
-pub fn put(dst: &mut [u8], src: &[u8]) -> Wrote
+pub fn put(dst: &mut [u8], src: &[u8]) -> Result<usize, Refusal>
     ensures { (result, dst.new) ≡ front_of src.now dst.old }
 {
     let n = src.len();
     if dst.len() < n {
-        return Wrote::Refused(Refusal::NoRoom(n as u64));
+        return Err(Refusal::NoRoom(n as u64));
     }
-    for i in 0..n {
-        dst[i] = src[i];
-    }
-    Wrote::Bytes(n)
+    dst[..n].copy_from_slice(src);
+    Ok(n)
 }
 
 // Writes `head` and then `tail`, as `put` writes one slice.
-pub fn put2(dst: &mut [u8], head: &[u8], tail: &[u8]) -> Wrote
+pub fn put2(dst: &mut [u8], head: &[u8], tail: &[u8]) -> Result<usize, Refusal>
     ensures { (result, dst.new) ≡ front_of (head.now ++ tail.now) dst.old }
 {
     let h = head.len();
     let wanted = h + tail.len();
     if dst.len() < wanted {
-        return Wrote::Refused(Refusal::NoRoom(wanted as u64));
+        return Err(Refusal::NoRoom(wanted as u64));
     }
-    put(dst, head);
-    put(&mut dst[h..], tail);
-    Wrote::Bytes(wanted)
+    dst[..h].copy_from_slice(head);
+    dst[h..wanted].copy_from_slice(tail);
+    Ok(wanted)
 }

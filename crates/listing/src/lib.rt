@@ -4,8 +4,7 @@
 #![tactic(auto)]
 
 use cursor::{Kind, Part};
-use parts::Tabled;
-use refusal::Row;
+use refusal::{Refused, Row};
 use std::io;
 
 // As many bytes as are judged.
@@ -42,21 +41,22 @@ fn unfilled() -> Part {
 }
 
 // Prints as many entries as were filled, or the refusal.
-fn print_table(rt: &HostRuntime, tabled: Tabled, table: &[Part; ENTRIES]) -> io::Result<()> {
+fn print_table(
+    rt: &HostRuntime,
+    tabled: Result<usize, Refused>,
+    table: &[Part; ENTRIES],
+) -> io::Result<()> {
     match tabled {
-        Tabled::Entries(n) => print_entries(rt, table, n),
-        Tabled::Refused { refusal, record } => print_refused(rt, refusal.row(record)),
+        Ok(n) => print_entries(rt, table, n),
+        Err(Refused { refusal, record }) => print_refused(rt, refusal.row(record)),
     }
 }
 
 // A line for each of the first n entries; ends early where nothing more can be written.
 fn print_entries(rt: &HostRuntime, table: &[Part; ENTRIES], n: usize) -> io::Result<()> {
     println!(rt; "kind start length")?;
-    for i in 0..ENTRIES {
-        if i == n {
-            return Ok(());
-        }
-        print_part(rt, table[i])?;
+    for part in table.iter().take(n) {
+        print_part(rt, *part)?;
     }
     Ok(())
 }

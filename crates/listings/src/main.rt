@@ -19,6 +19,7 @@ fn main(rt: HostRuntime) -> io::Result<()> {
 // Lists the files of a slice.
 fn list_all(rt: &HostRuntime, files: &[u8]) -> io::Result<()> {
     let mut at: usize = 0;
+    // Stays: where the next file begins is known only from the length of this one.
     while files.len() - at >= 4 {
         let end = end_of(files, at);
         listing::list(rt, &files[at + 4..end])?;

@@ -1,17 +1,15 @@
 -- The new file is accepted, with as many records.
-use Rattle.std.specs.Prelude.{ℕ, ◌≤◌, Bool, ◌||◌, List}
+use Rattle.std.specs.Prelude.{Option, Some, None, Ok, ℕ, ◌≤◌, Bool, ◌||◌, List}
+use Rattle.std.specs.Option.{is_some}
+use Rattle.judge.specs.Run.{run_of}
+use Rattle.header.specs.declared.Evlr.{Evlr}
 use Rattle.std.proofs.Math.Path.{◌≡◌, refl}
 use Rattle.std.proofs.Common.{sym, ap, ◌∙◌, arith}
 use Rattle.std.proofs.Math.Bool.{true, false}
 use Rattle.header.specs.declared.Header.{Header}
-use Rattle.header.specs.declared.OptionU64.{OptionU64}
-use Rattle.header.specs.declared.OptionU64.TheVariants as start
-use Rattle.header.specs.declared.OptionEvlr.{OptionEvlr}
-use Rattle.header.specs.declared.OptionEvlr.TheVariants as pair
 use Rattle.header.specs.Layout.{fields_of, size}
 use Rattle.outline.specs.declared.Outline.{Outline}
 use Rattle.outline.specs.Outline.{outline_of, header_size_is, no_evlrs}
-use Rattle.rules.specs.declared.Checked.TheVariants.{Accepted}
 use Rattle.rules.specs.Rules.{highest_format}
 use Rattle.rules.specs.Laws.{highest_formats}
 use Rattle.extents.specs.Extents.{records_of, records_are}
@@ -19,9 +17,7 @@ use Rattle.file.specs.Rules.{checked_of}
 use Rattle.file.specs.Holds.{PartsHold, Holds, judged-holds}
 use Rattle.file.specs.Theorems.{accepted}
 use Rattle.pairs.specs.declared.Plan.{Plan}
-use Rattle.judge.specs.declared.Verdict.TheVariants as verdict
-use Rattle.header_convert.specs.declared.Goes.TheVariants.{Yes}
-use Rattle.header_convert.specs.Turned.{is_start, is_pair, beside}
+use Rattle.header_convert.specs.Turned.{beside}
 use Rattle.header_convert.specs.Is.{version_is}
 use Rattle.header_convert.specs.Goes.{goes-up, goes_down}
 use Rattle.header_convert.specs.Told.{new_version, old_version}
@@ -55,31 +51,31 @@ module _ (up : Bool) (h : Header) (s : List ℕ) (g : Goer up h s) where
   alone : beside h ≡ false
   alone = go up g.yes
     where
-      go : (b : Bool) → goes_of b h ≡ Yes → beside h ≡ false
+      go : (b : Bool) → goes_of b h ≡ Ok tt → beside h ≡ false
       go true e = (goes-up h e).alone
       go false e = (goes_down h e).alone
 
-  pub no_pair : h.evlr ≡ pair.None
+  pub no_pair : h.evlr ≡ None
   unfolding beside
   no_pair = go h.start_of_waveform_data_packet_record h.evlr alone
     where
-      go : (x : OptionU64) (y : OptionEvlr) → is_start x || is_pair y ≡ false → y ≡ pair.None
-      go (start.Some k) y e = let z : ◌≡◌ {A = ℕ} 0 1 = cc in absurd (omega arith)
-      go start.None (pair.Some k) e = let z : ◌≡◌ {A = ℕ} 0 1 = cc in absurd (omega arith)
-      go start.None pair.None e = refl
+      go : (x : Option ℕ) (y : Option Evlr) → is_some x || is_some y ≡ false → y ≡ None
+      go (Some k) y e = let z : ◌≡◌ {A = ℕ} 0 1 = cc in absurd (omega arith)
+      go None (Some k) e = let z : ◌≡◌ {A = ℕ} 0 1 = cc in absurd (omega arith)
+      go None None e = refl
 
   -- and the version is none that has waveform packets after the points
   not_three : h.version.minor ≡ 3 → ⊥
   not_three three = go up g.yes
     where
-      go : (b : Bool) → goes_of b h ≡ Yes → ⊥
+      go : (b : Bool) → goes_of b h ≡ Ok tt → ⊥
       go true e = omega (arith, version_is 2 1 3 h (goes-up h e).is)
       go false e = omega (arith, version_is 4 6 7 h (goes_down h e).is)
 
   pub same_records : records_of (outline_of (other_of up h)) ≡ records_of (outline_of h)
   same_records = omega (arith, records_are (outline_of h), records_are (outline_of (other_of up h)), (moved up h s g).vlrs, (moved up h s g).later, (no_evlrs h not_three no_pair).1)
 
-  module _ {p : Plan} {m : ℕ} (goes : run_verdict up (outline_of h) s ≡ verdict.Goes p m) where
+  module _ {p : Plan} {m : ℕ} (goes : run_verdict up (outline_of h) s ≡ Ok (run_of p m)) where
     abbrev new : List ℕ
     new = new_file up p h s
 
@@ -120,5 +116,5 @@ module _ (up : Bool) (h : Header) (s : List ℕ) (g : Goer up h s) where
           parts = rw (minor_new up h s g goes, header_new up h s g goes) parts-new;
         }
 
-    pub accepted-new : {k : ℕ} → k ≡ records_of o → checked_of g.ready.allowance new ≡ Accepted k
+    pub accepted-new : {k : ℕ} → k ≡ records_of o → checked_of g.ready.allowance new ≡ Ok k
     accepted-new e = (accepted g.ready.allowance new).1 (holds-new, e ∙ sym same_records ∙ ap (λ (x : Header). records_of (outline_of x)) (sym (header_new up h s g goes)))

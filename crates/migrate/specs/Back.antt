@@ -1,5 +1,9 @@
 -- A file that went up, and comes down again.
-use Rattle.std.specs.Prelude.{ℕ, ◌+◌, ◌*◌, ◌-◌, ◌≤◌, ◌≡◌, Bool, take, replicate}
+use Rattle.std.specs.Prelude.{Result, Ok, Err, ℕ, ◌+◌, ◌*◌, ◌-◌, ◌≤◌, ◌≡◌, Bool, take, replicate}
+use Rattle.judge.specs.Run.{run_of, run_same}
+use Rattle.header.specs.Whole.{whole_of}
+use Rattle.refusal.specs.declared.Refused.{Refused}
+use Rattle.judge.specs.declared.Run.{Run}
 use Rattle.std.proofs.Common.{sym, subst, ◌∙◌, take-append-drop, take-add, length-take-le, drop-drop}
 use Rattle.std.proofs.Math.Path.{ap}
 use Rattle.std.proofs.Math.Bool.{true, false}
@@ -11,10 +15,9 @@ use Rattle.le.specs.Le as le
 use Rattle.le.specs.Laws.{bytes_take, bytes_drop}
 use Rattle.format.specs.Fields.{record_bytes}
 use Rattle.header.specs.declared.Header.{Header}
-use Rattle.header.specs.declared.HeaderAnswer.TheVariants.{Whole}
 use Rattle.header.specs.Layout.{HeaderSize}
 use Rattle.header.specs.Header.{number}
-use Rattle.header.specs.Judged.{judged, read_of, padding_of}
+use Rattle.header.specs.Judged.{judged, header_in, padding_of}
 use Rattle.header.specs.Answers.{size_read, padded_field}
 use Rattle.header.specs.Minor.{minor_read}
 use Rattle.header_write.specs.Bytes.{block}
@@ -26,15 +29,10 @@ use Rattle.file.specs.Holds.{standard_in, holds-judged}
 use Rattle.file.specs.Theorems.{accepted}
 use Rattle.pairs.specs.declared.Plan.{Plan}
 use Rattle.pairs.specs.Pairs.{format_with}
-use Rattle.judge.specs.declared.Verdict.{Verdict}
-use Rattle.judge.specs.declared.Verdict.TheVariants as verdict
-use Rattle.convert.specs.declared.Converted.{Converted}
-use Rattle.convert.specs.declared.Converted.TheVariants as converted
 use Rattle.convert.specs.Run.{images_of, to_new_of}
 use Rattle.convert.specs.Demand.{ask_of, Up, from_1, from_3, run_length, No28, AllWithin90, laid}
 use Rattle.convert.specs.Agree as run
 use Rattle.convert.specs.Theorems.{up-and-down-run, down-again-run}
-use Rattle.header_convert.specs.declared.Goes.TheVariants.{Yes}
 use Rattle.header_convert.specs.Turned.{new_header, old_header, old_goes}
 use Rattle.header_convert.specs.Is.{version_is}
 use Rattle.header_convert.specs.Goes.{GoesUp, goes-up, down_goes}
@@ -59,11 +57,11 @@ module _ (up : Bool) (h : Header) (s : List ℕ) (g : Goer up h s) where
   abbrev o : Outline
   o = outline_of h
 
-  whole : judged s ≡ Whole (standard_in s) o.header_size
+  whole : judged s ≡ Ok (whole_of (standard_in s) o.header_size)
   whole =
       let p = holds-judged s g.ready.holds.header in
       let field : o.header_size ≡ number HeaderSize s = header_size_is h ∙ ap (λ (x : Header). x.header_size) g.ready.read ∙ size_read s p in
-      p ∙ ap (Whole (standard_in s)) (padded_field (standard_in s) (number HeaderSize s) (omega (arith, (parts up h s g).header-size)) ∙ sym field)
+      p ∙ ap (λ (e : ℕ). Ok (whole_of (standard_in s) e)) (padded_field (standard_in s) (number HeaderSize s) (omega (arith, (parts up h s g).header-size)) ∙ sym field)
 
   in_order : block h ++ padding_of s ≡ take o.header_size s → (block h ++ (padding_of s ++ vlr_bytes o s)) ++ (point_bytes o s ++ drop (points_end o) s) ≡ s
   in_order first =
@@ -80,16 +78,15 @@ module _ (up : Bool) (h : Header) (s : List ℕ) (g : Goer up h s) where
       ∙ take-append-drop b s
 
 -- a verdict that goes when placed goes
-goes-placed : (n : ℕ) (v : Verdict) {p : Plan} {m : ℕ} → placed n v ≡ verdict.Goes p m → (k : ℕ) × (v ≡ verdict.Goes p k)
-goes-placed n (verdict.Goes q k) {p} {m} e =
-    let same : q ≡ p = cc in
-    (k, ap (λ (x : Plan). verdict.Goes x k) same)
-goes-placed n (verdict.Refused r k) e = let z : ◌≡◌ {A = ℕ} 0 1 = cc in absurd (omega arith)
+goes-placed : (n : ℕ) (v : Result Run Refused) {p : Plan} {m : ℕ} → placed n v ≡ Ok (run_of p m) → (k : ℕ) × (v ≡ Ok (run_of p k))
+goes-placed n (Ok run) {p} {m} e =
+    (run.bytes, ap (λ (x : Plan). Ok (run_of x run.bytes)) (run_same e).0)
+goes-placed n (Err err) e = let z : ◌≡◌ {A = ℕ} 0 1 = cc in absurd (omega arith)
 
 -- an old file that went up
 module _ (allowance : ℕ) (s : List ℕ) (bytes : le.Bytes s) {p : Plan} {n : ℕ} (w : Going true allowance s p n) where
   abbrev h : Header
-  h = (read_of s).header
+  h = header_in s
 
   abbrev q : Outline
   q = outline_of h
@@ -127,19 +124,19 @@ module _ (allowance : ℕ) (s : List ℕ) (bytes : le.Bytes s) {p : Plan} {n : �
   same-h : old_header h' ≡ h
   same-h = header_back_lem h (padding_of s) (own_readable true h s g) u
 
-  yes_down : old_goes h' ≡ Yes
+  yes_down : old_goes h' ≡ Ok tt
   yes_down = down_goes h' (goes_back h (padding_of s) (own_readable true h s g) u)
 
   -- the run went up
-  went_up : to_new_of q.point_data_record_format extra count points images ≡ (converted.Bytes w.bytes, images)
+  went_up : to_new_of q.point_data_record_format extra count points images ≡ (Ok w.bytes, images)
   unfolding run_verdict
   went_up =
       let long : length images ≡ w.bytes = images_long true h s g w.points in
       let full : length images ≤ w.bytes = omega arith in
       let past : drop w.bytes images ≡ [] = drop_of_length-le images full in
       run.with_room true q.point_data_record_format extra count points images w.points (omega arith)
-      ∙ ap (λ (l : List ℕ). (converted.Bytes w.bytes, images ++ l)) past
-      ∙ ap (λ (l : List ℕ). (converted.Bytes w.bytes, l)) (append-nil images)
+      ∙ ap (λ (l : List ℕ). (Ok w.bytes, images ++ l)) past
+      ∙ ap (λ (l : List ℕ). (Ok w.bytes, l)) (append-nil images)
 
   points_long : length points ≡ run_length q.point_data_record_format extra count
   points_long =
@@ -157,7 +154,7 @@ module _ (allowance : ℕ) (s : List ℕ) (bytes : le.Bytes s) {p : Plan} {n : �
       extra_is q'.point_data_record_format (extra_in q') extra (read ∙ sym (target-length true h s g))
 
   -- its question on the way down is that of its new points
-  same_question : run_verdict false (outline_of (read_of new).header) new ≡ ask_of false q'.point_data_record_format extra count images
+  same_question : run_verdict false (outline_of (header_in new)) new ≡ ask_of false q'.point_data_record_format extra count images
   unfolding run_verdict
   same_question =
       let to = header_new true h s g w.points in
@@ -165,23 +162,23 @@ module _ (allowance : ℕ) (s : List ℕ) (bytes : le.Bytes s) {p : Plan} {n : �
       ∙ λ i. ask_of false q'.point_data_record_format (extra-same i) ((moved true h s g).count i) (points-new true h s g w.points i)
 
   -- so is the file's, which is accepted
-  asked_down : file_verdict false allowance new ≡ placed (new_length false (read_of new).header new) (ask_of false q'.point_data_record_format extra count images)
+  asked_down : file_verdict false allowance new ≡ placed (new_length false (header_in new) new) (ask_of false q'.point_data_record_format extra count images)
   asked_down =
       let to = header_new true h s g w.points in
       let records = ((accepted allowance s).0 w.accepted).1 in
       by_accepted false allowance new (accepted-new true h s g w.points records)
-      ∙ by_points false (read_of new).header new (subst (λ (x : Header). old_goes x ≡ Yes) (sym to) yes_down)
-      ∙ ap (placed (new_length false (read_of new).header new)) same_question
+      ∙ by_points false (header_in new) new (subst (λ (x : Header). old_goes x ≡ Ok tt) (sym to) yes_down)
+      ∙ ap (placed (new_length false (header_in new) new)) same_question
 
   -- the new file of the new one, by whatever plan, is the old one, but for its points
-  length_back : new_length false (read_of new).header new ≡ length s
+  length_back : new_length false (header_in new) new ≡ length s
   unfolding new_length
   length_back =
       ap (λ (x : Header). points_end (outline_of (old_header x)) + (length new - points_end (outline_of x))) (header_new true h s g w.points)
       ∙ ap (λ (x : Header). points_end (outline_of x) + (length new - points_end q')) same-h
       ∙ omega (arith, ap length (rest-new true h s g w.points), length-drop (points_end q') new, length-drop (points_end q) s, (parts true h s g).points-within)
 
-  file_back : (p' : Plan) → images_of false p' count images ≡ points → new_file false p' (read_of new).header new ≡ s
+  file_back : (p' : Plan) → images_of false p' count images ≡ points → new_file false p' (header_in new) new ≡ s
   unfolding new_file front_of
   file_back p' same =
       let to = header_new true h s g w.points in
@@ -192,7 +189,7 @@ module _ (allowance : ℕ) (s : List ℕ) (bytes : le.Bytes s) {p : Plan} {n : �
       ∙ in_order true h s g first
 
   -- with no class 28 and ranks within ±90 it comes back
-  pub comes_back : No28 q.point_data_record_format extra count points → AllWithin90 q.point_data_record_format extra count points → (p' : Plan) × (file_verdict false allowance new ≡ verdict.Goes p' (length s)) × (new_file false p' (read_of new).header new ≡ s)
+  pub comes_back : No28 q.point_data_record_format extra count points → AllWithin90 q.point_data_record_format extra count points → (p' : Plan) × (file_verdict false allowance new ≡ Ok (run_of p' (length s))) × (new_file false p' (header_in new) new ≡ s)
   comes_back no28 ranks =
       let whole_run = run_length q.point_data_record_format extra count in
       let down = up-and-down-run pair extra count points images points-bytes went_up no28 ranks points (omega (arith, points_long)) in
@@ -203,11 +200,11 @@ module _ (allowance : ℕ) (s : List ℕ) (bytes : le.Bytes s) {p : Plan} {n : �
       let full : length points ≤ whole_run = omega (arith, points_long) in
       let past : drop whole_run points ≡ [] = drop_of_length-le points full in
       let same : images_of false p' count images ≡ points =
-      sym (append-nil (images_of false p' count images)) ∙ ap (λ (l : List ℕ). images_of false p' count images ++ l) (sym past) ∙ ap (λ (x : Converted × List ℕ). x.1) written ∙ laid_own in
-      (p', asked_down ∙ ap (placed (new_length false (read_of new).header new)) asked.0.1 ∙ ap (verdict.Goes p') length_back, file_back p' same)
+      sym (append-nil (images_of false p' count images)) ∙ ap (λ (l : List ℕ). images_of false p' count images ++ l) (sym past) ∙ ap (λ (x : Result ℕ Refused × List ℕ). x.1) written ∙ laid_own in
+      (p', asked_down ∙ ap (placed (new_length false (header_in new) new)) asked.0.1 ∙ ap (λ (b : ℕ). Ok (run_of p' b)) length_back, file_back p' same)
 
   -- and only then
-  pub comes_only : {p' : Plan} {m : ℕ} → file_verdict false allowance new ≡ verdict.Goes p' m → No28 q.point_data_record_format extra count points × AllWithin90 q.point_data_record_format extra count points
+  pub comes_only : {p' : Plan} {m : ℕ} → file_verdict false allowance new ≡ Ok (run_of p' m) → No28 q.point_data_record_format extra count points × AllWithin90 q.point_data_record_format extra count points
   comes_only {p'} {m} goes =
       let asked = goes-placed _ (ask_of false q'.point_data_record_format extra count images) (sym asked_down ∙ goes) in
       let room : List ℕ = replicate (asked.0 + run_length q.point_data_record_format extra count) 0 in

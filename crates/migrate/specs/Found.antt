@@ -1,5 +1,6 @@
 -- What stands in the new file: the fields that are kept, the counts, and the points.
-use Rattle.std.specs.Prelude.{ℕ, ◌*◌, ◌≤◌, ◌<◌, ◌≡◌, refl, Bool, true, false, take, replicate}
+use Rattle.std.specs.Prelude.{Ok, ℕ, ◌*◌, ◌≤◌, ◌<◌, ◌≡◌, refl, Bool, true, false, take, replicate}
+use Rattle.judge.specs.Run.{run_of}
 use Rattle.std.proofs.Math.Path.{sym, ap}
 use Rattle.std.proofs.Common.{◌∙◌, eq-eqb, ne_eqb}
 use mathlib.Core.List.{List, [], ◌++◌, append-nil}
@@ -11,8 +12,6 @@ use Rattle.header.specs.Header.{points_of}
 use Rattle.outline.specs.declared.Outline.{Outline}
 use Rattle.outline.specs.Outline.{outline_of}
 use Rattle.pairs.specs.declared.Plan.{Plan}
-use Rattle.judge.specs.declared.Verdict.TheVariants as verdict
-use Rattle.convert.specs.declared.Converted.TheVariants as converted
 use Rattle.convert.specs.Run.{images_of}
 use Rattle.convert.specs.Demand.{convert_of, Down, from_6, from_7, SameValues}
 use Rattle.convert.specs.Agree.{with_room}
@@ -87,7 +86,7 @@ way_down : {a b : ℕ} → Way false a b → Down a b
 way_down down_6 = from_6
 way_down down_7 = from_7
 
-module _ (up : Bool) (h : Header) (s : List ℕ) (g : Goer up h s) {p : Plan} {m : ℕ} (goes : run_verdict up (outline_of h) s ≡ verdict.Goes p m) where
+module _ (up : Bool) (h : Header) (s : List ℕ) (g : Goer up h s) {p : Plan} {m : ℕ} (goes : run_verdict up (outline_of h) s ≡ Ok (run_of p m)) where
   abbrev o : Outline
   o = outline_of h
 
@@ -98,7 +97,7 @@ module _ (up : Bool) (h : Header) (s : List ℕ) (g : Goer up h s) {p : Plan} {m
   new = new_file up p h s
 
   -- the new file's points are what the conversion makes of the old ones, in a place that they fill
-  pub converted_points : (d : List ℕ) → length d ≡ length (point_bytes n new) → convert_of up o.point_data_record_format (extra_in o) o.number_of_point_records (point_bytes o s) d ≡ (converted.Bytes (length d), point_bytes n new)
+  pub converted_points : (d : List ℕ) → length d ≡ length (point_bytes n new) → convert_of up o.point_data_record_format (extra_in o) o.number_of_point_records (point_bytes o s) d ≡ (Ok (length d), point_bytes n new)
   unfolding run_verdict
   converted_points d long =
       let images = images_of up p o.number_of_point_records (point_bytes o s) in
@@ -107,10 +106,10 @@ module _ (up : Bool) (h : Header) (s : List ℕ) (g : Goer up h s) {p : Plan} {m
       let full : length d ≤ m = omega arith in
       let past : drop m d ≡ [] = drop_of_length-le d full in
       with_room up o.point_data_record_format (extra_in o) o.number_of_point_records (point_bytes o s) d goes (omega arith)
-      ∙ λ i. (converted.Bytes (sym size i), (ap (λ (l : List ℕ). images ++ l) past ∙ append-nil images ∙ sym is) i)
+      ∙ λ i. (Ok (sym size i), (ap (λ (l : List ℕ). images ++ l) past ∙ append-nil images ∙ sym is) i)
 
 -- on the way down every point shows what it showed
-pub same_points : (h : Header) (s : List ℕ) (g : Goer false h s) {p : Plan} {m : ℕ} (goes : run_verdict false (outline_of h) s ≡ verdict.Goes p m) → let o = outline_of h in let n = outline_of (old_header h) in (k : ℕ) → k < o.number_of_point_records → SameValues o.point_data_record_format n.point_data_record_format (extra_in o) k (point_bytes o s) (point_bytes n (new_file false p h s))
+pub same_points : (h : Header) (s : List ℕ) (g : Goer false h s) {p : Plan} {m : ℕ} (goes : run_verdict false (outline_of h) s ≡ Ok (run_of p m)) → let o = outline_of h in let n = outline_of (old_header h) in (k : ℕ) → k < o.number_of_point_records → SameValues o.point_data_record_format n.point_data_record_format (extra_in o) k (point_bytes o s) (point_bytes n (new_file false p h s))
 same_points h s g {p} goes k within =
     let o = outline_of h in
     let new = new_file false p h s in

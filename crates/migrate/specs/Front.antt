@@ -1,5 +1,5 @@
 -- The header of the new file can be written and read, and has the place that its fields say.
-use Rattle.std.specs.Prelude.{ℕ, ◌+◌, ◌-◌, ◌≤◌, ◌≡◌, Bool, true, false, List, length}
+use Rattle.std.specs.Prelude.{Ok, ℕ, ◌+◌, ◌-◌, ◌≤◌, ◌≡◌, Bool, true, false, List, length}
 use Rattle.std.proofs.Common.{sym, ap, subst, ◌∙◌, arith}
 use Rattle.header.specs.declared.Header.{Header}
 use Rattle.header.specs.Layout.{VersionMinor, fields_of, size}
@@ -11,7 +11,6 @@ use Rattle.header_write.specs.Readable.{Readable}
 use Rattle.header_write.specs.Theorems.{readable}
 use Rattle.outline.specs.Outline.{outline_of, header_size_is, offset_is}
 use Rattle.file.specs.Holds.{standard_in, holds-judged}
-use Rattle.header_convert.specs.declared.Goes.TheVariants.{Yes}
 use Rattle.header_convert.specs.Is.{version_is}
 use Rattle.header_convert.specs.Goes.{goes-up, goes_down}
 use Rattle.header_convert.specs.Readable.{new-readable, old-readable}
@@ -31,7 +30,7 @@ module _ (up : Bool) (h : Header) (s : List ℕ) (g : Goer up h s) where
   pub other-readable : Readable new (padding_of s)
   other-readable = go up g.yes
     where
-      go : (b : Bool) → goes_of b h ≡ Yes → Readable (other_of b h) (padding_of s)
+      go : (b : Bool) → goes_of b h ≡ Ok tt → Readable (other_of b h) (padding_of s)
       go true e = new-readable h (padding_of s) own_readable (goes-up h e)
       go false e = old-readable h (padding_of s) own_readable (goes_down h e)
 
@@ -42,7 +41,7 @@ module _ (up : Bool) (h : Header) (s : List ℕ) (g : Goer up h s) where
   pub standards : By up 148 (standard_in s) (size (fields_of new.version.minor))
   standards = go up g.yes
     where
-      go : (b : Bool) → goes_of b h ≡ Yes → By b 148 (standard_in s) (size (fields_of (other_of b h).version.minor))
+      go : (b : Bool) → goes_of b h ≡ Ok tt → By b 148 (standard_in s) (size (fields_of (other_of b h).version.minor))
       go true e = rw (minor_is ∙ version_is 2 1 3 h (goes-up h e).is, (new_version h).1)
       go false e = rw (minor_is ∙ version_is 4 6 7 h (goes_down h e).is, (old_version h).1)
 

@@ -1,13 +1,12 @@
 -- Laws of the destination, piece by piece, and of what each piece has.
-use Rattle.std.specs.Prelude.{ℕ, ◌+◌, ◌-◌, ◌≤◌, ◌≡◌, take}
+use Rattle.std.specs.Prelude.{Result, ℕ, ◌+◌, ◌-◌, ◌≤◌, ◌≡◌, refl, take}
+use Rattle.refusal.specs.declared.Refusal.{Refusal}
 use Rattle.std.proofs.Math.Path.{sym, ap}
 use Rattle.std.proofs.Common.{◌∙◌, arith, length-drop, take_at, drop_at, take-add, drop-drop, take_all, length-take-le}
 use mathlib.Core.List.{List, ◌++◌, append_assoc}
 use Rattle.std.proofs.Math.ListN.{length, drop, length-append}
 use Rattle.std.proofs.lemmas.List.Edits.{sets-eq}
-use Rattle.lent.specs.declared.Wrote.{Wrote}
-use Rattle.lent.specs.Front as lent
-use Rattle.lent.specs.Laws.{tail}
+use Rattle.lent.specs.Laws.{copied}
 use Rattle.header.specs.declared.Header.{Header}
 use Rattle.header.specs.Layout.{fields_of, size}
 use Rattle.header.specs.Judged.{padding_of}
@@ -24,20 +23,20 @@ same_length : (front d : List ℕ) (n : ℕ) → length front ≡ n → n ≤ le
 same_length front d n size room = omega (arith, length-append front (drop n d), length-drop n d)
 
 -- a header and its padding at the front, and then the VLRs into the rest
-module _ (d b p v d' ys : List ℕ) (n : ℕ) (r : Wrote) (size : length (b ++ p) ≡ n) (room : n + length v ≤ length d) (laid : d' ≡ (b ++ p) ++ drop n d) (put : (r, ys) ≡ lent.front_of v (take (length d' - n) (drop n d'))) where
-  pub front-laid : take n d' ++ (ys ++ drop (length d' - n) (drop n d')) ≡ (b ++ (p ++ v)) ++ drop (n + length v) d
+module _ (d b p v d' ys : List ℕ) (n : ℕ) (size : length (b ++ p) ≡ n) (room : n + length v ≤ length d) (laid : d' ≡ (b ++ p) ++ drop n d) (put : ys ≡ v) where
+  pub front-laid : take n d' ++ (ys ++ drop (n + length v - n) (drop n d')) ≡ (b ++ (p ++ v)) ++ drop (n + length v) d
   front-laid =
       let long : length d' ≡ length d = ap length laid ∙ same_length (b ++ p) d n size (omega arith) in
       let begins : take n d' ≡ b ++ p = ap (take n) laid ∙ take_at (b ++ p) (drop n d) n size in
       let ends : drop n d' ≡ drop n d = ap (drop n) laid ∙ drop_at (b ++ p) (drop n d) n size in
       let past : drop (n + length v) d' ≡ drop (n + length v) d = sym (drop-drop (length v) n d') ∙ ap (drop (length v)) ends ∙ drop-drop (length v) n d in
-      tail d' v ys n r (omega arith) put ∙ sets-eq v d' n (omega arith)
+      copied d' v ys n (n + length v) refl (omega arith) put ∙ sets-eq v d' n (omega arith)
       ∙ (λ i. (begins i ++ v) ++ past i)
       ∙ ap (λ (l : List ℕ). l ++ drop (n + length v) d) (append_assoc b p v)
 
 -- a front over a destination in which the points stand, and what follows them after these
-module _ (d front rest d' ys : List ℕ) (n to : ℕ) (r : Wrote) (size : length front ≡ n) (over : n ≤ to) (room : to + length rest ≤ length d) (laid : d' ≡ front ++ drop n d) (put : (r, ys) ≡ lent.front_of rest (take (length d' - to) (drop to d'))) where
-  pub around_laid : take to d' ++ (ys ++ drop (length d' - to) (drop to d')) ≡ front ++ (take (to - n) (drop n d) ++ (rest ++ drop (to + length rest) d))
+module _ (d front rest d' ys : List ℕ) (n to : ℕ) (size : length front ≡ n) (over : n ≤ to) (room : to + length rest ≤ length d) (laid : d' ≡ front ++ drop n d) (put : ys ≡ rest) where
+  pub around_laid : take to d' ++ (ys ++ drop (to + length rest - to) (drop to d')) ≡ front ++ (take (to - n) (drop n d) ++ (rest ++ drop (to + length rest) d))
   around_laid =
       let long : length d' ≡ length d = ap length laid ∙ same_length front d n size (omega arith) in
       let ends : drop n d' ≡ drop n d = ap (drop n) laid ∙ drop_at front (drop n d) n size in
@@ -47,7 +46,7 @@ module _ (d front rest d' ys : List ℕ) (n to : ℕ) (r : Wrote) (size : length
       let more : n + (to - n + length rest) ≡ to + length rest = omega arith in
       let past : drop (to + length rest) d' ≡ drop (to + length rest) d =
       ap (λ (k : ℕ). drop k d') (sym more) ∙ sym (drop-drop (to - n + length rest) n d') ∙ ap (drop (to - n + length rest)) ends ∙ drop-drop (to - n + length rest) n d ∙ ap (λ (k : ℕ). drop k d) more in
-      tail d' rest ys to r (omega arith) put ∙ sets-eq rest d' to (omega arith)
+      copied d' rest ys to (to + length rest) refl (omega arith) put ∙ sets-eq rest d' to (omega arith)
       ∙ (λ i. (begins i ++ rest) ++ past i)
       ∙ append_assoc (front ++ take (to - n) (drop n d)) rest (drop (to + length rest) d)
       ∙ append_assoc front (take (to - n) (drop n d)) (rest ++ drop (to + length rest) d)
@@ -85,14 +84,14 @@ module _ (new : Header) (o : Outline) (s d : List ℕ) (f : Fronted new o s d) w
       ap length (sym (append_assoc (block new) (padding_of s) (vlr_bytes o s))) ∙ length-append (block new ++ padding_of s) (vlr_bytes o s)
       ∙ (λ i. headed i + vlrs_long i) ∙ sym f.moved
 
-  pub front-written : (d' ys : List ℕ) (r t : Wrote) → (r, d') ≡ wrote_of new (padding_of s) d → (t, ys) ≡ lent.front_of (vlr_bytes o s) (take (length d' - new.header_size) (drop new.header_size d')) → take new.header_size d' ++ (ys ++ drop (length d' - new.header_size) (drop new.header_size d')) ≡ front_of new o s ++ drop new.offset_to_point_data d
+  pub front-written : (d' ys : List ℕ) (r : Result ℕ Refusal) → (r, d') ≡ wrote_of new (padding_of s) d → ys ≡ vlr_bytes o s → take new.header_size d' ++ (ys ++ drop (new.header_size + length (vlr_bytes o s) - new.header_size) (drop new.header_size d')) ≡ front_of new o s ++ drop new.offset_to_point_data d
   unfolding front_of
-  front-written d' ys r t wrote put =
+  front-written d' ys r wrote put =
       let fits : standard + length (padding_of s) ≤ length d = omega (arith, f.padded, f.moved, f.room) in
-      let laid : d' ≡ (block new ++ padding_of s) ++ drop (standard + length (padding_of s)) d = ap (λ (w : Wrote × List ℕ). w.1) (wrote ∙ with_room new (padding_of s) f.readable d fits) in
+      let laid : d' ≡ (block new ++ padding_of s) ++ drop (standard + length (padding_of s)) d = ap (λ (w : Result ℕ Refusal × List ℕ). w.1) (wrote ∙ with_room new (padding_of s) f.readable d fits) in
       let laid' : d' ≡ (block new ++ padding_of s) ++ drop new.header_size d = laid ∙ ap (λ (k : ℕ). (block new ++ padding_of s) ++ drop k d) (sym f.padded) in
       let ends : new.header_size + length (vlr_bytes o s) ≡ new.offset_to_point_data = omega (arith, vlrs_long, f.moved) in
-      front-laid d (block new) (padding_of s) (vlr_bytes o s) d' ys new.header_size t headed (omega (arith, ends, f.room)) laid' put
+      front-laid d (block new) (padding_of s) (vlr_bytes o s) d' ys new.header_size headed (omega (arith, ends, f.room)) laid' put
       ∙ ap (λ (k : ℕ). (block new ++ (padding_of s ++ vlr_bytes o s)) ++ drop k d) ends
 
 -- all but some bytes, as a slice to the end

@@ -1,5 +1,5 @@
 -- Where the parts of the new file lie, by its header.
-use Rattle.std.specs.Prelude.{ℕ, ◌+◌, ◌*◌, ◌-◌, ◌^◌, ◌≤◌, ◌<◌, ◌≡◌, Bool, ◌⊎◌, List, length}
+use Rattle.std.specs.Prelude.{Ok, ℕ, ◌+◌, ◌*◌, ◌-◌, ◌^◌, ◌≤◌, ◌<◌, ◌≡◌, Bool, ◌⊎◌, List, length}
 use Rattle.std.proofs.Common.{sym, subst, ◌∙◌, inl, inr, mul-add, arith}
 use Rattle.std.proofs.Math.Path.{ap}
 use Rattle.std.proofs.Math.Bool.{true, false}
@@ -11,7 +11,7 @@ use Rattle.format.specs.Codes.{coded}
 use Rattle.header.specs.declared.Header.{Header}
 use Rattle.header.specs.Layout.{VersionMinor}
 use Rattle.header.specs.Header.{number, points_of}
-use Rattle.header.specs.Judged.{read_of}
+use Rattle.header.specs.Judged.{header_in}
 use Rattle.header.specs.Minor.{no-large, points_legacy}
 use Rattle.outline.specs.declared.Outline.{Outline}
 use Rattle.outline.specs.Outline.{outline_of, no_evlrs, header_size_is, vlrs_is, offset_is, code_is, count_is, record_length_is}
@@ -20,7 +20,6 @@ use Rattle.extents.specs.Extents.{points_end}
 use Rattle.file.specs.Holds.{PartsHold, standard_in, Holds, holds-judged}
 use Rattle.file.specs.Points.{point_format, format_is, format_long}
 use Rattle.pairs.specs.Pairs.{format_with}
-use Rattle.header_convert.specs.declared.Goes.TheVariants.{Yes}
 use Rattle.header_convert.specs.Turned.{new_code, old_code, new_header, old_header}
 use Rattle.header_convert.specs.Told.{new_version, old_version, new-placed, old-placed}
 use Rattle.header_convert.specs.Is as is
@@ -80,13 +79,13 @@ moved_down h g =
 
 -- the points of an accepted file are of the format of their code, and each has the record length
 module _ (allowance : ℕ) (s : List ℕ) (held : Holds allowance s) where
-  holds_format : let y = outline_of (read_of s).header in point_format y ≡ format_with y.point_data_record_format (extra_in y)
+  holds_format : let y = outline_of (header_in s) in point_format y ≡ format_with y.point_data_record_format (extra_in y)
   unfolding format_with
   holds_format =
       let own = format_is allowance s held in
-      own ∙ ap (λ (f : Format). with_extra f.extra_bytes (coded (outline_of (read_of s).header).point_data_record_format false)) (sym own)
+      own ∙ ap (λ (f : Format). with_extra f.extra_bytes (coded (outline_of (header_in s)).point_data_record_format false)) (sym own)
 
-  pub holds-length : let y = outline_of (read_of s).header in record_bytes (format_with y.point_data_record_format (extra_in y)) ≡ y.point_data_record_length
+  pub holds-length : let y = outline_of (header_in s) in record_bytes (format_with y.point_data_record_format (extra_in y)) ≡ y.point_data_record_length
   holds-length = ap record_bytes (sym holds_format) ∙ format_long allowance s held
 
 -- and of a file whose header goes
@@ -102,13 +101,13 @@ module _ (up : Bool) (h : Header) (s : List ℕ) (g : Goer up h s) where
   legacy two =
       let r = g.ready in
       let p = holds-judged s r.holds.header in
-      let old : (read_of s).header.version.minor < 4 = omega (arith, ap (λ (x : Header). x.version.minor) r.read) in
+      let old : (header_in s).version.minor < 4 = omega (arith, ap (λ (x : Header). x.version.minor) r.read) in
       sym (points_legacy h (ap (λ (x : Header). x.has_large_file) r.read ∙ no-large s p old))
 
   pub moved : Moved up o n
   moved = go up g.yes
     where
-      go : (b : Bool) → goes_of b h ≡ Yes → Moved b (outline_of h) (outline_of (other_of b h))
+      go : (b : Bool) → goes_of b h ≡ Ok tt → Moved b (outline_of h) (outline_of (other_of b h))
       go true e = let u = goes-up h e in moved_up h u (legacy (is.version_is 2 1 3 h u.is))
       go false e = moved_down h (goes_down h e)
 

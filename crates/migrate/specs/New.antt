@@ -1,26 +1,25 @@
 -- The new file, read: its header is the other one, its padding, its VLRs and what follows its points are the old file's, and its points are
 -- the images of the old ones.
-use Rattle.std.specs.Prelude.{ℕ, ◌+◌, ◌*◌, ◌-◌, ◌≡◌, Bool, take, drop, replicate}
+use Rattle.std.specs.Prelude.{Ok, ℕ, ◌+◌, ◌*◌, ◌-◌, ◌≡◌, Bool, take, drop, replicate}
+use Rattle.judge.specs.Run.{run_of}
+use Rattle.header.specs.Whole.{whole_of}
 use Rattle.std.proofs.Math.Path.{refl, ap}
 use Rattle.std.proofs.Common.{sym, ◌∙◌, arith, take_at, drop_at, drop-drop, length-take-le}
 use mathlib.Core.List.{List, ◌++◌, append_assoc}
 use Rattle.std.proofs.Math.ListN.{length, length-append, length-drop}
 use Rattle.std.proofs.lemmas.List.{length-replicate}
 use Rattle.header.specs.declared.Header.{Header}
-use Rattle.header.specs.declared.HeaderRead.{HeaderRead}
-use Rattle.header.specs.declared.HeaderAnswer.TheVariants.{Whole}
 use Rattle.header.specs.Layout.{VersionMinor, fields_of, size}
 use Rattle.header.specs.Header.{number}
-use Rattle.header.specs.Judged.{judged, read_of, padding_of}
-use Rattle.header.specs.Answers.{answer_is}
+use Rattle.header.specs.Judged.{judged, read_of, header_in, padding_of}
+use Rattle.header.specs.Answers.{header_is}
 use Rattle.header.specs.Minor.{minor_read}
 use Rattle.header_write.specs.Bytes.{block}
-use Rattle.header_write.specs.Reread.{length_is, read_again, padding_again}
+use Rattle.header_write.specs.Reread.{length_is, judged_again, read_again, padding_again}
 use Rattle.outline.specs.declared.Outline.{Outline}
 use Rattle.outline.specs.Outline.{outline_of, offset_is, header_size_is}
 use Rattle.extents.specs.Extents.{points_end, vlr_bytes}
 use Rattle.pairs.specs.declared.Plan.{Plan}
-use Rattle.judge.specs.declared.Verdict.TheVariants as verdict
 use Rattle.convert.specs.Run.{images_of}
 use Rattle.migrate.specs.Migrate.{other_of, point_bytes, run_verdict, front_of, new_file, new_length}
 use Rattle.migrate.specs.Steps.{Goer, Fronted}
@@ -28,7 +27,7 @@ use Rattle.migrate.specs.Laws.{front_long}
 use Rattle.migrate.specs.Front.{other-readable, fronted}
 use Rattle.migrate.specs.Done.{needed, images_long}
 
-module _ (up : Bool) (h : Header) (s : List ℕ) (g : Goer up h s) {p : Plan} {m : ℕ} (goes : run_verdict up (outline_of h) s ≡ verdict.Goes p m) where
+module _ (up : Bool) (h : Header) (s : List ℕ) (g : Goer up h s) {p : Plan} {m : ℕ} (goes : run_verdict up (outline_of h) s ≡ Ok (run_of p m)) where
   abbrev o : Outline
   o = outline_of h
 
@@ -83,14 +82,14 @@ module _ (up : Bool) (h : Header) (s : List ℕ) (g : Goer up h s) {p : Plan} {m
   abbrev standard : ℕ
   standard = size (fields_of other.version.minor)
 
-  pub read_new : read_of new ≡ record { answer = Whole standard (standard + length (padding_of s)); header = other }
+  pub read_new : read_of new ≡ Ok other
   read_new = ap read_of headed ∙ read_again other (padding_of s) (other-readable up h s g) after
 
-  pub judged-new : judged new ≡ Whole standard (standard + length (padding_of s))
-  judged-new = sym (answer_is new) ∙ ap (λ (r : HeaderRead). r.answer) read_new
+  pub judged-new : judged new ≡ Ok (whole_of standard (standard + length (padding_of s)))
+  judged-new = ap judged headed ∙ judged_again other (padding_of s) (other-readable up h s g) after
 
-  pub header_new : (read_of new).header ≡ other
-  header_new = ap (λ (r : HeaderRead). r.header) read_new
+  pub header_new : header_in new ≡ other
+  header_new = sym (header_is new read_new)
 
   pub minor_new : number VersionMinor new ≡ other.version.minor
   minor_new = sym (minor_read new judged-new) ∙ ap (λ (x : Header). x.version.minor) header_new

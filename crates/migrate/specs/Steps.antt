@@ -1,20 +1,14 @@
 -- What the private steps go by.
-use Rattle.std.specs.Prelude.{ℕ, ◌+◌, ◌-◌, ◌^◌, ◌≤◌, ◌<◌, ◌≡◌, Bool, List, ◌++◌, length, take, drop}
+use Rattle.std.specs.Prelude.{Ok, ℕ, ◌+◌, ◌-◌, ◌^◌, ◌≤◌, ◌<◌, ◌≡◌, Bool, List, ◌++◌, length, take, drop}
 use Rattle.std.proofs.Common.{subst}
-use Rattle.refusal.specs.declared.Refusal.TheVariants.{NoRoom}
 use Rattle.le.specs.Le.{Bytes}
 use Rattle.header.specs.declared.Header.{Header}
 use Rattle.header.specs.Layout.{fields_of, size}
-use Rattle.header.specs.Judged.{read_of, padding_of}
+use Rattle.header.specs.Judged.{header_in, padding_of}
 use Rattle.header_write.specs.Readable.{Readable}
 use Rattle.outline.specs.declared.Outline.{Outline}
 use Rattle.extents.specs.Extents.{points_end}
 use Rattle.file.specs.Holds.{Holds}
-use Rattle.judge.specs.declared.Verdict.{Verdict}
-use Rattle.judge.specs.declared.Verdict.TheVariants as verdict
-use Rattle.convert.specs.declared.Converted.{Converted}
-use Rattle.convert.specs.declared.Converted.TheVariants.{Refused}
-use Rattle.header_convert.specs.declared.Goes.TheVariants.{Yes}
 use Rattle.migrate.specs.Migrate.{goes_of, front_of}
 
 -- the header of an accepted file
@@ -22,17 +16,12 @@ pub record Ready (h : Header) (s : List ℕ) : Type 0 where
   pub allowance : ℕ
   pub holds : Holds allowance s
   pub bytes : Bytes s
-  pub read : h ≡ (read_of s).header
+  pub read : h ≡ header_in s
 
 -- one that goes
 pub record Goer (up : Bool) (h : Header) (s : List ℕ) : Type 0 where
   pub ready : Ready h s
-  pub yes : goes_of up h ≡ Yes
-
--- what a file is told that has no room
-abbrev pub roomless : ℕ → Verdict → Converted
-roomless n (verdict.Goes p bytes) = Refused (NoRoom n) 0
-roomless n (verdict.Refused r k) = Refused r k
+  pub yes : goes_of up h ≡ Ok tt
 
 -- points that lie in a file
 pub record Inside (o : Outline) (s : List ℕ) : Type 0 where

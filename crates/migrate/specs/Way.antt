@@ -1,9 +1,11 @@
 -- The ways of the points: from one format to the other, in records that are two bytes longer or shorter, by the plan of the two.
-use Rattle.std.specs.Prelude.{ℕ, ◌+◌, ◌*◌, ◌-◌, ◌≤◌, ◌≡◌, refl, Bool, true, false, List}
+use Rattle.std.specs.Prelude.{Result, Ok, Err, ℕ, ◌+◌, ◌*◌, ◌-◌, ◌≤◌, ◌≡◌, refl, Bool, true, false, List}
+use Rattle.judge.specs.Run.{run_of, run_same}
+use Rattle.refusal.specs.declared.Refusal.{Refusal}
+use Rattle.refusal.specs.declared.Refused.{Refused}
 use Rattle.std.proofs.Common.{sym, ◌∙◌}
 use native.Mathlib.Omega.{arith}
 use Rattle.format.specs.declared.Format.{Format}
-use Rattle.format.specs.declared.FormatLen.{FormatLen}
 use Rattle.format.specs.Format.{with_extra}
 use Rattle.format.specs.Codes.{coded}
 use Rattle.format.specs.Fields.{record_bytes, len_of}
@@ -14,9 +16,6 @@ use Rattle.rules.specs.Rules.{format_bytes}
 use Rattle.rules.specs.Laws.{filled-bytes}
 use Rattle.pairs.specs.declared.Plan.{Plan}
 use Rattle.pairs.specs.Pairs.{format_with, old_pair, new_pair, lengths_of}
-use Rattle.judge.specs.declared.Judged.{Judged}
-use Rattle.judge.specs.declared.Judged.TheVariants as judged
-use Rattle.judge.specs.declared.Verdict.TheVariants as verdict
 use Rattle.judge.specs.Judge.{judged_of, verdict_on, verdict_by, old_verdict, new_verdict}
 use Rattle.convert.specs.Demand.{ask_of}
 use Rattle.convert.specs.Told.{plan_of}
@@ -79,17 +78,17 @@ asked down_7 extra count s = refl
 
 -- a run that goes does so by their plan, and needs the bytes of its records
 module _ (up : Bool) (f g : Format) (count : ℕ) (s : List ℕ) {p : Plan} {n : ℕ} where
-  goes_by : verdict_by up count s (lengths_of f g (len_of f) (len_of g)) ≡ verdict.Goes p n → (p ≡ plan_of f g) × (n ≡ count * record_bytes g)
+  goes_by : verdict_by up count s (lengths_of f g (len_of f) (len_of g)) ≡ Ok (run_of p n) → (p ≡ plan_of f g) × (n ≡ count * record_bytes g)
   goes_by = go (format.told f) (format.told g)
     where
-      run : (j : Judged) → verdict_on (plan_of f g) count j ≡ verdict.Goes p n → (p ≡ plan_of f g) × (n ≡ count * record_bytes g)
-      run judged.Fits e = (cc, cc)
-      run (judged.Refused r k) e = let z : ◌≡◌ {A = ℕ} 0 1 = cc in absurd (omega arith)
+      run : (j : Result Unit Refused) → verdict_on (plan_of f g) count j ≡ Ok (run_of p n) → (p ≡ plan_of f g) × (n ≡ count * record_bytes g)
+      run (Ok _) e = let same = run_same e in (sym same.0, sym same.1)
+      run (Err err) e = let z : ◌≡◌ {A = ℕ} 0 1 = cc in absurd (omega arith)
 
-      go : {x y : FormatLen} → format.Told f x → format.Told g y → verdict_by up count s (lengths_of f g x y) ≡ verdict.Goes p n → (p ≡ plan_of f g) × (n ≡ count * record_bytes g)
+      go : {x y : Result ℕ Refusal} → format.Told f x → format.Told g y → verdict_by up count s (lengths_of f g x y) ≡ Ok (run_of p n) → (p ≡ plan_of f g) × (n ≡ count * record_bytes g)
       go (format.over h) y e = let z : ◌≡◌ {A = ℕ} 0 1 = cc in absurd (omega arith)
       go (format.fits h) (format.over l) e = let z : ◌≡◌ {A = ℕ} 0 1 = cc in absurd (omega arith)
       go (format.fits h) (format.fits l) e = run (judged_of up (plan_of f g) count s) e
 
-pub plan_is : {up : Bool} {a b : ℕ} → Way up a b → (extra count : ℕ) (s : List ℕ) {p : Plan} {n : ℕ} → ask_of up a extra count s ≡ verdict.Goes p n → (p ≡ plan_of (format_with a extra) (format_with b extra)) × (n ≡ count * record_bytes (format_with b extra))
+pub plan_is : {up : Bool} {a b : ℕ} → Way up a b → (extra count : ℕ) (s : List ℕ) {p : Plan} {n : ℕ} → ask_of up a extra count s ≡ Ok (run_of p n) → (p ≡ plan_of (format_with a extra) (format_with b extra)) × (n ≡ count * record_bytes (format_with b extra))
 plan_is {up} {a} {b} way extra count s e = goes_by up (format_with a extra) (format_with b extra) count s (sym (asked way extra count s) ∙ e)

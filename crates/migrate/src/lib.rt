@@ -6,19 +6,16 @@ ghost use Rattle.std.specs.Prelude.{◌≡◌, true, false, ◌++◌, ◌+◌, �
 ghost use Rattle.extents.specs.Extents.{points_end};
 ghost use Rattle.convert.specs.Demand.{convert_of};
 ghost use Rattle.migrate.specs.Migrate.{goes_of, other_of, point_bytes, extra_in, run_verdict, front_of, header_verdict, file_verdict, done_by, migrated_of};
-ghost use Rattle.migrate.specs.Steps.{Ready, Goer, Inside, Fronted, Around, around_of, roomless};
+ghost use Rattle.migrate.specs.Steps.{Ready, Goer, Inside, Fronted, Around, around_of};
 
-use convert::Converted;
 use header::Header;
-use header_convert::Goes;
-use judge::Verdict;
+use judge::Run;
 use outline::Outline;
-use refusal::Refusal;
-use rules::Checked;
+use refusal::{Refusal, Refused};
 
 // Whether a file of version 1.2 goes to 1.4, and the bytes that it has there. Refused as the file check refuses; then 32 where it is not
 // 1.2 with format 1 or 3; then 4, 9 and 8 where header size, point offset or record length would not fit its field.
-pub fn ask_new(file: &[u8], allowance: u64) -> Verdict
+pub fn ask_new(file: &[u8], allowance: u64) -> Result<Run, Refused>
     ensures { result ≡ file_verdict true allowance file.now }
 {
     ask(file, allowance, true)
@@ -27,7 +24,7 @@ pub fn ask_new(file: &[u8], allowance: u64) -> Verdict
 // Whether a file of version 1.4 goes to 1.2, and the bytes that it has there. Refused as the file check refuses; then 32 where it is not
 // 1.4 with format 6 or 7; 33 where it has EVLRs or a waveform start; 34 where its counts have no place in an old header; then 15 to 21
 // with the number of the first point that does not fit.
-pub fn ask_old(file: &[u8], allowance: u64) -> Verdict
+pub fn ask_old(file: &[u8], allowance: u64) -> Result<Run, Refused>
     ensures { result ≡ file_verdict false allowance file.now }
 {
     ask(file, allowance, false)
@@ -35,87 +32,62 @@ pub fn ask_old(file: &[u8], allowance: u64) -> Verdict
 
 // Writes the file as one of version 1.4 to the front of the destination and leaves what lies past it. Refused, with nothing written, as
 // the question refuses, and then with 22 and the bytes of the new file where the destination is shorter.
-pub fn to_new(file: &[u8], allowance: u64, dst: &mut [u8]) -> Converted
+pub fn to_new(file: &[u8], allowance: u64, dst: &mut [u8]) -> Result<usize, Refused>
     ensures { (result, dst.new) ≡ migrated_of true allowance file.now dst.old }
 {
     write(file, allowance, true, dst)
 }
 
 // Writes the file as one of version 1.2, in the same way.
-pub fn to_old(file: &[u8], allowance: u64, dst: &mut [u8]) -> Converted
+pub fn to_old(file: &[u8], allowance: u64, dst: &mut [u8]) -> Result<usize, Refused>
     ensures { (result, dst.new) ≡ migrated_of false allowance file.now dst.old }
 {
     write(file, allowance, false, dst)
 }
 
 // The question either way; `up` says whether the file goes to 1.4.
-fn ask(file: &[u8], allowance: u64, up: bool) -> Verdict
+fn ask(file: &[u8], allowance: u64, up: bool) -> Result<Run, Refused>
     ensures { result ≡ file_verdict up allowance file.now }
 {
-    match file::check(file, allowance) {
-        Checked::Accepted { records: _ } => {
-            let read = Header::read_from(file);
-            ask_accepted(file, read.header, up)
-        }
-        Checked::Refused {
-            refusal,
-            record,
-            records: _,
-        } => Verdict::Refused { refusal, record },
-    }
+    let header = file::open(file, allowance)?;
+    ask_accepted(file, header, up)
 }
 
 // The question of an accepted file with this header.
-fn ask_accepted(file: &[u8], header: Header, up: bool) -> Verdict
+fn ask_accepted(file: &[u8], header: Header, up: bool) -> Result<Run, Refused>
     requires { Ready header file.now }
     ensures { result ≡ header_verdict up header file.now }
 {
-    match goes(header, up) {
-        Goes::Yes => {
-            let o = Outline::of(header);
-            match ask_points(file, o, up) {
-                Verdict::Goes { plan, bytes: _ } => Verdict::Goes {
-                    plan,
-                    bytes: new_length(file.len(), o, Outline::of(other(header, up))),
-                },
-                Verdict::Refused { refusal, record } => Verdict::Refused { refusal, record },
-            }
-        }
-        Goes::Refused(refusal) => Verdict::Refused { refusal, record: 0 },
-    }
+    goes(header, up)?;
+    let o = Outline::of(header);
+    let points = ask_points(file, o, up)?;
+    let n = Outline::of(other(header, up));
+    Ok(Run {
+        plan: points.plan,
+        bytes: new_length(file.len(), o, n),
+    })
 }
 
 // The writing call either way.
-fn write(file: &[u8], allowance: u64, up: bool, dst: &mut [u8]) -> Converted
+fn write(file: &[u8], allowance: u64, up: bool, dst: &mut [u8]) -> Result<usize, Refused>
     ensures { (result, dst.new) ≡ migrated_of up allowance file.now dst.old }
 {
-    match file::check(file, allowance) {
-        Checked::Accepted { records: _ } => {
-            let read = Header::read_from(file);
-            write_accepted(file, read.header, up, dst)
-        }
-        Checked::Refused {
-            refusal,
-            record,
-            records: _,
-        } => Converted::Refused { refusal, record },
-    }
+    let header = file::open(file, allowance)?;
+    write_accepted(file, header, up, dst)
 }
 
 // An accepted file with this header, written.
-fn write_accepted(file: &[u8], header: Header, up: bool, dst: &mut [u8]) -> Converted
+fn write_accepted(file: &[u8], header: Header, up: bool, dst: &mut [u8]) -> Result<usize, Refused>
     requires { Ready header file.now }
     ensures { (result, dst.new) ≡ done_by up header file.now dst.old (header_verdict up header file.now) }
 {
-    match goes(header, up) {
-        Goes::Yes => write_goer(file, header, up, dst),
-        Goes::Refused(refusal) => Converted::Refused { refusal, record: 0 },
-    }
+    goes(header, up)?;
+    write_goer(file, header, up, dst)
 }
 
 // A file whose header goes, written. The points come first, since they may be refused; without room they are only asked for, since what
 // refuses them comes before 22.
-fn write_goer(file: &[u8], header: Header, up: bool, dst: &mut [u8]) -> Converted
+fn write_goer(file: &[u8], header: Header, up: bool, dst: &mut [u8]) -> Result<usize, Refused>
     requires { Goer up header file.now }
     ensures { (result, dst.new) ≡ done_by up header file.now dst.old (header_verdict up header file.now) }
 {
@@ -124,33 +96,18 @@ fn write_goer(file: &[u8], header: Header, up: bool, dst: &mut [u8]) -> Converte
     let n = Outline::of(new);
     let total = new_length(file.len(), o, n);
     if dst.len() < total {
-        return without_room(ask_points(file, o, up), total as u64);
+        let _ = ask_points(file, o, up)?;
+        return Err(Refusal::NoRoom(total as u64).into());
     }
     let from = n.offset_to_point_data as usize;
     let to = end_of(n);
-    let converted = convert_points(file, o, up, &mut dst[from..to]);
-    let Converted::Bytes(_) = converted else {
-        return converted;
-    };
+    let _ = convert_points(file, o, up, &mut dst[from..to])?;
     write_around(file, new, o, to, dst);
-    Converted::Bytes(total)
-}
-
-// What a file is told that has no room: why its points do not go, or 22.
-fn without_room(verdict: Verdict, total: u64) -> Converted
-    ensures { result ≡ roomless total verdict }
-{
-    match verdict {
-        Verdict::Goes { plan: _, bytes: _ } => Converted::Refused {
-            refusal: Refusal::NoRoom(total),
-            record: 0,
-        },
-        Verdict::Refused { refusal, record } => Converted::Refused { refusal, record },
-    }
+    Ok(total)
 }
 
 // Whether the header goes.
-fn goes(header: Header, up: bool) -> Goes
+fn goes(header: Header, up: bool) -> Result<(), Refusal>
     ensures { result ≡ goes_of up header }
 {
     if up {
@@ -162,7 +119,7 @@ fn goes(header: Header, up: bool) -> Goes
 
 // The header in the other version, of one that goes.
 fn other(header: Header, up: bool) -> Header
-    requires { goes_of up header ≡ Goes.Yes }
+    requires { goes_of up header ≡ Ok tt }
     ensures { result ≡ other_of up header }
 {
     if up {
@@ -173,7 +130,7 @@ fn other(header: Header, up: bool) -> Header
 }
 
 // Whether the points go: document 01's question, of the bytes where they lie.
-fn ask_points(file: &[u8], o: Outline, up: bool) -> Verdict
+fn ask_points(file: &[u8], o: Outline, up: bool) -> Result<Run, Refused>
     requires { Inside o file.now }
     ensures { result ≡ run_verdict up o file.now }
 {
@@ -190,7 +147,7 @@ fn ask_points(file: &[u8], o: Outline, up: bool) -> Verdict
 }
 
 // The points, converted to the front of a destination that is lent for them alone.
-fn convert_points(file: &[u8], o: Outline, up: bool, dst: &mut [u8]) -> Converted
+fn convert_points(file: &[u8], o: Outline, up: bool, dst: &mut [u8]) -> Result<usize, Refused>
     requires { Inside o file.now }
     ensures { (result, dst.new) ≡ convert_of up o.point_data_record_format (extra_in o) o.number_of_point_records (point_bytes o file.now) dst.old }
 {
@@ -213,7 +170,8 @@ fn write_around(file: &[u8], new: Header, o: Outline, to: usize, dst: &mut [u8])
 {
     let end = end_of(o);
     write_front(file, new, o, dst);
-    lent::put(&mut dst[to..], &file[end..]);
+    let rest = &file[end..];
+    dst[to..to + rest.len()].copy_from_slice(rest);
 }
 
 // The header with its padding, and then all that lies between it and the points, the VLRs among them.
@@ -221,10 +179,10 @@ fn write_front(file: &[u8], new: Header, o: Outline, dst: &mut [u8])
     requires { Fronted new o file.now dst.old }
     ensures { dst.new ≡ front_of new o file.now ++ drop new.offset_to_point_data dst.old }
 {
-    header_write::write_to(new, header::padding(file), dst);
-    let from = o.header_size as usize;
-    let to = o.offset_to_point_data as usize;
-    lent::put(&mut dst[new.header_size as usize..], &file[from..to]);
+    let _ = header_write::write_to(new, header::padding(file), dst);
+    let vlrs = &file[o.header_size as usize..o.offset_to_point_data as usize];
+    let at = new.header_size as usize;
+    dst[at..at + vlrs.len()].copy_from_slice(vlrs);
 }
 
 // Where the points end.

@@ -2,3 +2,4 @@
 pub mod Names
 -- laws
 pub mod Laws
+pub mod Bytes

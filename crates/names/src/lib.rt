@@ -8,15 +8,8 @@ ghost use Rattle.names.specs.Names.{is_named};
 pub fn is_named(field: &[u8], name: &[u8]) -> bool
     ensures { result ≡ is_named field.now name.now }
 {
-    if field.len() < name.len() {
+    let Some(rest) = field.strip_prefix(name) else {
         return false;
-    }
-    let mut i = 0;
-    while i < field.len() {
-        if field[i] != le::u8_at(name, i) {
-            return false;
-        }
-        i += 1;
-    }
-    true
+    };
+    rest.iter().all(|b| *b == 0)
 }

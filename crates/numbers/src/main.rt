@@ -5,10 +5,8 @@
 #![tactic(auto)]
 
 use angle::ScanAngle;
-use convert::Converted;
-use flags::{Flags, TwoBytes};
-use le::signed;
-use refusal::Refusal;
+use flags::Flags;
+use refusal::{Refusal, Refused};
 use std::io;
 
 // The bytes of records of format 6 and of format 1, without extra bytes.
@@ -70,8 +68,8 @@ fn flags_down(rt: &HostRuntime, a: u8, b: u8, c: u8) -> io::Result<()> {
 
 fn plain_two(rt: &HostRuntime, flags: Flags) -> io::Result<()> {
     match flags.to_two_bytes() {
-        TwoBytes::Bytes(x, y) => print_two(rt, x, y),
-        TwoBytes::Refused(refusal) => print_refused(rt, refusal, 0),
+        Ok((x, y)) => print_two(rt, x, y),
+        Err(refusal) => print_refused(rt, refusal, 0),
     }
 }
 
@@ -79,8 +77,8 @@ fn strict_two(rt: &HostRuntime, a: u8, b: u8, c: u8) -> io::Result<()> {
     let new = new_record(a, b, c, 0);
     let mut old = [0u8; OLD];
     match convert::to_old(&new, 6, 0, 1, &mut old) {
-        Converted::Bytes(_) => print_two(rt, old[14], old[15]),
-        Converted::Refused { refusal, record } => print_refused(rt, refusal, record),
+        Ok(_) => print_two(rt, old[14], old[15]),
+        Err(Refused { refusal, record }) => print_refused(rt, refusal, record),
     }
 }
 
@@ -99,22 +97,22 @@ fn upgraded_three(rt: &HostRuntime, a: u8, b: u8) -> io::Result<()> {
     let old = old_record(a, b, 0);
     let mut new = [0u8; NEW];
     match convert::to_new(&old, 1, 0, 1, &mut new) {
-        Converted::Bytes(_) => {
+        Ok(_) => {
             print_three(rt, new[14], new[15], new[16])?;
             print!(rt; ", down again ")?;
             strict_two(rt, new[14], new[15], new[16])
         }
-        Converted::Refused { refusal, record } => print_refused(rt, refusal, record),
+        Err(Refused { refusal, record }) => print_refused(rt, refusal, record),
     }
 }
 
 // A scaled angle made a rank, plainly and strictly.
 fn angle_down(rt: &HostRuntime, n: i16) -> io::Result<()> {
-    let bits = signed::bits16(n);
+    let bits = n.cast_unsigned();
     print!(rt; "scaled ")?;
     print_signed16(rt, bits)?;
     print!(rt; " plainly ")?;
-    print_signed8(rt, signed::bits8(ScanAngle::Scaled(n).to_rank()))?;
+    print_signed8(rt, ScanAngle::Scaled(n).to_rank().cast_unsigned())?;
     print!(rt; ", strictly ")?;
     strict_rank(rt, bits)?;
     println!(rt; "")
@@ -124,18 +122,18 @@ fn strict_rank(rt: &HostRuntime, bits: u16) -> io::Result<()> {
     let new = new_record(0, 0, 0, bits);
     let mut old = [0u8; OLD];
     match convert::to_old(&new, 6, 0, 1, &mut old) {
-        Converted::Bytes(_) => print_signed8(rt, old[16]),
-        Converted::Refused { refusal, record } => print_refused(rt, refusal, record),
+        Ok(_) => print_signed8(rt, old[16]),
+        Err(Refused { refusal, record }) => print_refused(rt, refusal, record),
     }
 }
 
 // A rank made scaled, plainly and by the upgrade, and what was upgraded made a rank again.
 fn angle_up(rt: &HostRuntime, r: i8) -> io::Result<()> {
-    let bits = signed::bits8(r);
+    let bits = r.cast_unsigned();
     print!(rt; "rank ")?;
     print_signed8(rt, bits)?;
     print!(rt; " plainly ")?;
-    print_signed16(rt, signed::bits16(ScanAngle::Rank(r).to_scaled()))?;
+    print_signed16(rt, ScanAngle::Rank(r).to_scaled().cast_unsigned())?;
     print!(rt; ", upgraded ")?;
     upgraded_angle(rt, bits)?;
     println!(rt; "")
@@ -145,19 +143,19 @@ fn upgraded_angle(rt: &HostRuntime, rank: u8) -> io::Result<()> {
     let old = old_record(0, 0, rank);
     let mut new = [0u8; NEW];
     match convert::to_new(&old, 1, 0, 1, &mut new) {
-        Converted::Bytes(_) => {
+        Ok(_) => {
             let bits = le::u16_at(&new, 18);
             print_signed16(rt, bits)?;
             print!(rt; ", down again ")?;
             strict_rank(rt, bits)
         }
-        Converted::Refused { refusal, record } => print_refused(rt, refusal, record),
+        Err(Refused { refusal, record }) => print_refused(rt, refusal, record),
     }
 }
 
 // A record of format 6 with these flags and this angle, and one of format 1; all else is zero.
 fn new_record(a: u8, b: u8, c: u8, angle: u16) -> [u8; NEW] {
-    let two = le::u16_bytes(angle);
+    let two = angle.to_le_bytes();
     let mut new = [0u8; NEW];
     new[14] = a;
     new[15] = b;
@@ -196,11 +194,11 @@ fn print_three(rt: &HostRuntime, a: u8, b: u8, c: u8) -> io::Result<()> {
 
 // The signed numbers of 8 and of 16 bits.
 fn print_signed8(rt: &HostRuntime, bits: u8) -> io::Result<()> {
-    let n = signed::signed8(bits);
+    let n = bits.cast_signed();
     print!(rt; "{n}")
 }
 
 fn print_signed16(rt: &HostRuntime, bits: u16) -> io::Result<()> {
-    let n = signed::signed16(bits);
+    let n = bits.cast_signed();
     print!(rt; "{n}")
 }

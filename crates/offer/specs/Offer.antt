@@ -1,20 +1,23 @@
 -- What is done with records that are offered to a file: document 02, No. 1. All sums and products are exact.
+use Rattle.rules.specs.NotAccepted.{refused_of}
+use Rattle.std.specs.Prelude.{Result, Ok, Err}
+use Rattle.refusal.specs.Refused.{at_record}
+use Rattle.refusal.specs.declared.Refused.{Refused}
+use Rattle.rules.specs.declared.NotAccepted.{NotAccepted}
 use Rattle.std.specs.Prelude.{ℕ, ◌+◌, ◌*◌, ◌-◌, ◌^◌, Bool, cond, ◌&&◌, List, eqb, ltb, leb, length, take, drop, get_or}
 use Rattle.refusal.specs.declared.Refusal.{Refusal}
 use Rattle.refusal.specs.declared.Refusal.TheVariants.{Short, NoRoom, NotVersion12, NoRecords, CountNeither, CountTooLarge}
 use Rattle.refusal.specs.Table.{wanted_of}
 use Rattle.header.specs.declared.Header.{Header}
-use Rattle.header.specs.Judged.{eq_list, read_of}
+use Rattle.header.specs.Judged.{eq_list, header_in}
 use Rattle.outline.specs.Outline.{outline_of}
-use Rattle.rules.specs.declared.Checked.{Checked}
-use Rattle.rules.specs.declared.Checked.TheVariants as checked
 use Rattle.extents.specs.Extents.{points_end}
 use Rattle.file.specs.Rules.{checked_of}
 use Rattle.file.specs.Points.{point_format}
 use Rattle.tally.specs.Tally.{by_return}
 use Rattle.offer.specs.declared.Sweep.{Sweep}
 use Rattle.offer.specs.declared.Offer.{Offer}
-use Rattle.offer.specs.declared.Offer.TheVariants.{Add, AlreadyIn, Refused}
+use Rattle.offer.specs.declared.Offer.TheVariants.{Add, AlreadyIn}
 
 -- what the header says: the points that stand there, the bytes of each, and where they end
 abbrev pub count_in : Header → ℕ
@@ -58,21 +61,21 @@ counts_fit w =
     ltb w.points (2 ^ 32)
     && (ltb w.first (2 ^ 32) && (ltb w.second (2 ^ 32) && (ltb w.third (2 ^ 32) && (ltb w.fourth (2 ^ 32) && ltb w.fifth (2 ^ 32)))))
 
-abbrev pub no : Refusal → Offer
-no r = Refused r 0
+abbrev pub no : Refusal → Result Offer Refused
+no r = Err (at_record r 0)
 
 -- "a count over 2^32−1; no room for the records"
-unfoldable pub growing : Sweep → List ℕ → Offer
-growing w s = cond (counts_fit w) (cond (leb (w.at + w.bytes) (length s)) (Add w) (no (NoRoom (w.at + w.bytes)))) (no CountTooLarge)
+unfoldable pub growing : Sweep → List ℕ → Result Offer Refused
+growing w s = cond (counts_fit w) (cond (leb (w.at + w.bytes) (length s)) (Ok (Add w)) (no (NoRoom (w.at + w.bytes)))) (no CountTooLarge)
 
 -- "Count as believed: ..", "already in", "count neither"
-unfoldable pub counted : Header → List ℕ → ℕ → ℕ → List ℕ → Offer
+unfoldable pub counted : Header → List ℕ → ℕ → ℕ → List ℕ → Result Offer Refused
 counted h records n believed s =
     cond (eqb (count_in h) believed) (growing (sweep_of h records n) s)
-    (cond (is_in h records n believed s) AlreadyIn (no CountNeither))
+    (cond (is_in h records n believed s) (Ok AlreadyIn) (no CountNeither))
 
 -- "not 1.2; n is zero; records short (1)"
-unfoldable pub offered : Header → List ℕ → ℕ → ℕ → List ℕ → Offer
+unfoldable pub offered : Header → List ℕ → ℕ → ℕ → List ℕ → Result Offer Refused
 offered h records n believed s =
     let wanted = n * record_length h in
     cond (eqb h.version.minor 2)
@@ -80,9 +83,9 @@ offered h records n believed s =
     (no NotVersion12)
 
 -- "Refusals, after 01's file check"
-abbrev pub offer_by : Checked → List ℕ → ℕ → ℕ → List ℕ → Offer
-offer_by (checked.Refused r k found) records n believed s = Refused r k
-offer_by (checked.Accepted found) records n believed s = offered (read_of s).header records n believed s
+abbrev pub offer_by : Result ℕ NotAccepted → List ℕ → ℕ → ℕ → List ℕ → Result Offer Refused
+offer_by (Err err) records n believed s = Err (refused_of err)
+offer_by (Ok found) records n believed s = offered (header_in s) records n believed s
 
-unfoldable pub offer_of : ℕ → List ℕ → ℕ → ℕ → List ℕ → Offer
+unfoldable pub offer_of : ℕ → List ℕ → ℕ → ℕ → List ℕ → Result Offer Refused
 offer_of allowance records n believed s = offer_by (checked_of allowance s) records n believed s

@@ -1,7 +1,7 @@
 -- What the steps of the judgement go by.
+use Rattle.std.specs.Prelude.{Ok}
 use Rattle.std.specs.Prelude.{ℕ, ◌+◌, ◌*◌, ◌-◌, ◌^◌, ◌≤◌, ◌<◌, ◌≡◌, Bool, ◌&&◌, List, eqb, length, take, drop, get_or}
 use Rattle.std.proofs.Math.Path.{refl}
-use Rattle.format.specs.declared.FormatLen.TheVariants as len
 use Rattle.format.specs.Fields.{len_of}
 use Rattle.header.specs.declared.Header.{Header}
 use Rattle.header.specs.Judged.{eq_list}
@@ -14,7 +14,7 @@ use Rattle.offer.specs.Offer.{count_in, record_length, end_in, is_in, sweep_of}
 
 -- the header of an accepted file: a record of the points' format is as long as it says, and the points end in the file
 pub record Ready (h : Header) (s : List ℕ) : Type 0 where
-  pub long : len_of (point_format (outline_of h)) ≡ len.Is (record_length h)
+  pub long : len_of (point_format (outline_of h)) ≡ Ok (record_length h)
   pub within : end_in h ≤ length s
 
 -- and n records are there, counted by return

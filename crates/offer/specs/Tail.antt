@@ -1,4 +1,6 @@
 -- The bytes behind the points of an accepted file without later records are no part of an offer.
+use Rattle.std.specs.Prelude.{Result, Ok}
+use Rattle.rules.specs.declared.NotAccepted.{NotAccepted}
 use Rattle.std.specs.Prelude.{ℕ, ◌+◌, ◌*◌, ◌-◌, ◌≤◌, ◌≡◌, Bool, ◌&&◌, length, take}
 use Rattle.std.proofs.Math.Path.{refl, ap}
 use Rattle.std.proofs.Common.{sym, ◌∙◌, mul-le-mul_right, arith, eqb-true}
@@ -6,14 +8,11 @@ use Rattle.std.proofs.Math.Bool.{true, false}
 use mathlib.Core.List.{List}
 use Rattle.std.proofs.Math.Dec.{eqb}
 use Rattle.header.specs.declared.Header.{Header}
-use Rattle.header.specs.declared.HeaderRead.{HeaderRead}
-use Rattle.header.specs.Judged.{eq_list, read_of}
+use Rattle.header.specs.Judged.{eq_list, header_in}
 use Rattle.outline.specs.Outline.{outline_of}
-use Rattle.rules.specs.declared.Checked.{Checked}
-use Rattle.rules.specs.declared.Checked.TheVariants.{Accepted}
 use Rattle.file.specs.Rules.{checked_of}
 use Rattle.file.specs.Theorems.{accepted-holds}
-use Rattle.file.specs.Kept.{same-part, same_read, same_check}
+use Rattle.file.specs.Kept.{same-part, same_header_in, same_check}
 use Rattle.offer.specs.Offer.{count_in, record_length, end_in, last_bytes, is_in, growing, counted, offered, offer_by, offer_of}
 
 -- of a file with this header, the records that stand last lie before the end of the points
@@ -37,12 +36,12 @@ module _ (h : Header) (records : List ℕ) (n believed : ℕ) (s t : List ℕ) (
   same-offered long = rw (same_in, long)
 
 -- "Demand 2 reads the tail's bytes as free until counted": bytes that agree up to the end of the points have the same offer
-module _ (a : ℕ) (s t : List ℕ) {m : ℕ} (accepted : checked_of a s ≡ Accepted m) (none : (outline_of (read_of s).header).number_of_later_records ≡ 0) (long : length t ≡ length s) (same : take (end_in (read_of s).header) t ≡ take (end_in (read_of s).header) s) where
+module _ (a : ℕ) (s t : List ℕ) {m : ℕ} (accepted : checked_of a s ≡ Ok m) (none : (outline_of (header_in s)).number_of_later_records ≡ 0) (long : length t ≡ length s) (same : take (end_in (header_in s)) t ≡ take (end_in (header_in s)) s) where
   pub same_offer : (records : List ℕ) (n believed : ℕ) → offer_of a records n believed t ≡ offer_of a records n believed s
   unfolding offer_of
   same_offer records n believed =
       let holds = accepted-holds a s accepted in
-      ap (λ (x : Checked). offer_by x records n believed t) (same_check a s t holds none long same accepted)
-      ∙ ap (λ (r : HeaderRead). offered r.header records n believed t) (same_read a s t holds none long same)
-      ∙ same-offered (read_of s).header records n believed s t same long
-      ∙ ap (λ (x : Checked). offer_by x records n believed s) (sym accepted)
+      ap (λ (x : Result ℕ NotAccepted). offer_by x records n believed t) (same_check a s t holds none long same accepted)
+      ∙ ap (λ (h : Header). offered h records n believed t) (same_header_in a s t holds none long same)
+      ∙ same-offered (header_in s) records n believed s t same long
+      ∙ ap (λ (x : Result ℕ NotAccepted). offer_by x records n believed s) (sym accepted)

@@ -9,9 +9,8 @@ ghost use Rattle.offer.specs.Steps.{Ready, Counted, Apart, stand_last, Small, to
 
 use header::Header;
 use outline::Outline;
-use refusal::Refusal;
-use rules::Checked;
-use tally::{ByReturn, Tally};
+use refusal::{Refusal, Refused};
+use tally::ByReturn;
 
 // Records that go into a file: where, how many bytes, and the header's counts with them.
 #[derive(Clone, Copy)]
@@ -33,31 +32,33 @@ pub struct Sweep {
 pub enum Offer {
     Add(Sweep),
     AlreadyIn,
-    Refused { refusal: Refusal, record: u64 },
 }
 
 // What to do with n records, offered to a file in which `believed` points are believed to stand before them: the file's count is as
 // believed, and they are to be added; or it is higher by n and the file's last n records are these bytes, and they are already in.
 // Refused as the file check does; then 28 where the version is not 1.2, 29 where n is 0, 1 where there are fewer bytes than n records of
 // the file have, 30 where the count is neither, 31 where a count would pass 2^32 - 1, and 22 where they end beyond the file.
-pub fn judge(file: &[u8], allowance: u64, records: &[u8], n: u64, believed: u64) -> Offer
+pub fn judge(
+    file: &[u8],
+    allowance: u64,
+    records: &[u8],
+    n: u64,
+    believed: u64,
+) -> Result<Offer, Refused>
     ensures { result ≡ offer_of allowance records.now n believed file.now }
 {
-    match file::check(file, allowance) {
-        Checked::Accepted { records: _ } => {
-            let read = Header::read_from(file);
-            judge_version(file, read.header, records, n, believed)
-        }
-        Checked::Refused {
-            refusal,
-            record,
-            records: _,
-        } => Offer::Refused { refusal, record },
-    }
+    let header = file::open(file, allowance)?;
+    judge_version(file, header, records, n, believed)
 }
 
 // The offer to an accepted file with this header.
-fn judge_version(file: &[u8], h: Header, records: &[u8], n: u64, believed: u64) -> Offer
+fn judge_version(
+    file: &[u8],
+    h: Header,
+    records: &[u8],
+    n: u64,
+    believed: u64,
+) -> Result<Offer, Refused>
     requires { Ready h file.now }
     ensures { result ≡ offered h records.now n believed file.now }
 {
@@ -68,10 +69,8 @@ fn judge_version(file: &[u8], h: Header, records: &[u8], n: u64, believed: u64) 
     if n == 0 {
         return refused(Refusal::NoRecords);
     }
-    match tally::count(records, file::point_format(Outline::of(h)), n) {
-        Tally::Is(new) => judge_count(file, h, records, n, new, believed),
-        Tally::Refused(refusal) => refused(refusal),
-    }
+    let new = tally::count(records, file::point_format(Outline::of(h)), n)?;
+    judge_count(file, h, records, n, new, believed)
 }
 
 // The offer of n records that are all there, `new` of each return.
@@ -82,7 +81,7 @@ fn judge_count(
     n: u64,
     new: ByReturn,
     believed: u64,
-) -> Offer
+) -> Result<Offer, Refused>
     requires { Counted h records.now n new file.now }
     ensures { result ≡ counted h records.now n believed file.now }
 {
@@ -96,7 +95,7 @@ fn judge_count(
         return grow(file, end, bytes, count + n, total(old, new));
     }
     if already_in(file, end, bytes, records, n, count, believed) {
-        return Offer::AlreadyIn;
+        return Ok(Offer::AlreadyIn);
     }
     refused(Refusal::CountNeither)
 }
@@ -127,7 +126,13 @@ fn already_in(
 }
 
 // The records added: refused where a count passes 2^32 - 1, then where they end beyond the file.
-fn grow(file: &[u8], at: u64, bytes: u64, points: u64, by_return: ByReturn) -> Offer
+fn grow(
+    file: &[u8],
+    at: u64,
+    bytes: u64,
+    points: u64,
+    by_return: ByReturn,
+) -> Result<Offer, Refused>
     requires { at + bytes ≤ 4294967295 + points * 65535 }
     ensures { result ≡ growing (sweep_by at bytes points by_return) file.now }
 {
@@ -138,7 +143,7 @@ fn grow(file: &[u8], at: u64, bytes: u64, points: u64, by_return: ByReturn) -> O
     if (file.len() as u64) < end {
         return refused(Refusal::NoRoom(end));
     }
-    Offer::Add(sweep_of(at, bytes, points, by_return))
+    Ok(Offer::Add(sweep_of(at, bytes, points, by_return)))
 }
 
 // The header's counts by return with the new ones.
@@ -193,8 +198,8 @@ fn sweep_of(at: u64, bytes: u64, points: u64, by_return: ByReturn) -> Sweep
 }
 
 // A refusal that names no record.
-fn refused(refusal: Refusal) -> Offer
+fn refused(refusal: Refusal) -> Result<Offer, Refused>
     ensures { result ≡ no refusal }
 {
-    Offer::Refused { refusal, record: 0 }
+    Err(Refused { refusal, record: 0 })
 }

@@ -1,4 +1,6 @@
 -- What a header says of the parts of its file.
+use Rattle.std.specs.Prelude.{Option, Some, None}
+use Rattle.header.specs.declared.Evlr.{Evlr}
 use Rattle.std.specs.Prelude.{ℕ, ◌/◌, ◌%◌, ◌≡◌, Bool, cond, ◌&&◌, eqb}
 use Rattle.std.proofs.Math.Path.{refl, ap}
 use Rattle.std.proofs.Common.{sym, subst, ◌∙◌}
@@ -7,27 +9,23 @@ use borrow.Author.Tests.{eq-eqb, ne_eqb, eqb-true}
 use Rattle.std.proofs.Math.Dec.{T}
 use Rattle.header.specs.declared.Header.{Header}
 use Rattle.header.specs.declared.Version.{Version}
-use Rattle.header.specs.declared.OptionU64.{OptionU64}
-use Rattle.header.specs.declared.OptionU64.TheVariants as start
-use Rattle.header.specs.declared.OptionEvlr.{OptionEvlr}
-use Rattle.header.specs.declared.OptionEvlr.TheVariants as pair
 use Rattle.header.specs.Header.{points_of}
 use Rattle.header.specs.Updated.{Alike}
 use Rattle.outline.specs.declared.Outline.{Outline}
 
 -- start and count of the EVLRs; none is two zeros
-abbrev pub evlr_start : OptionEvlr → ℕ
-evlr_start (pair.Some e) = e.start_of_first_evlr
-evlr_start pair.None = 0
+abbrev pub evlr_start : Option Evlr → ℕ
+evlr_start (Some e) = e.start_of_first_evlr
+evlr_start None = 0
 
-abbrev pub evlr_count : OptionEvlr → ℕ
-evlr_count (pair.Some e) = e.number_of_evlrs
-evlr_count pair.None = 0
+abbrev pub evlr_count : Option Evlr → ℕ
+evlr_count (Some e) = e.number_of_evlrs
+evlr_count None = 0
 
 -- start of the waveform packets; none is 0
-abbrev pub packets_start : OptionU64 → ℕ
-packets_start (start.Some n) = n
-packets_start start.None = 0
+abbrev pub packets_start : Option ℕ → ℕ
+packets_start (Some n) = n
+packets_start None = 0
 
 -- document 02, No. 11: "In 1.3 with bit 1 of global encoding set and a waveform start that isn't zero, the waveform packets are a record
 -- with a 60-byte head after the points."
@@ -128,7 +126,7 @@ module _ (h : Header) where
       go false = refl
 
   -- so that without EVLRs there are no later records, and both of their numbers are 0
-  pub no_evlrs : (h.version.minor ≡ 3 → ⊥) → h.evlr ≡ pair.None → ((outline_of h).start_of_later_records ≡ 0) × ((outline_of h).number_of_later_records ≡ 0)
+  pub no_evlrs : (h.version.minor ≡ 3 → ⊥) → h.evlr ≡ None → ((outline_of h).start_of_later_records ≡ 0) × ((outline_of h).number_of_later_records ≡ 0)
   no_evlrs other none =
       let plain = with_evlrs (no_waveform other) in
       (ap (λ (o : Outline). o.start_of_later_records) plain ∙ ap evlr_start none, ap (λ (o : Outline). o.number_of_later_records) plain ∙ ap evlr_count none)

@@ -5,7 +5,7 @@
 ghost use Rattle.std.specs.Prelude.{◌≡◌, cond};
 ghost use Rattle.outline.specs.Outline.{evlr_start, evlr_count, packets_start, is_waveform, outline_of};
 
-use header::{Header, OptionEvlr, OptionU64, Version};
+use header::{Evlr, Header, Version};
 
 // The header's fields of these names; the count is the effective one. The later records, those after the points, are the EVLRs, or the
 // waveform packets, which are one record; without any both numbers are 0.
@@ -47,12 +47,12 @@ impl Outline {
 }
 
 // Where the waveform packets start, or 0.
-fn start_of_packets(start: OptionU64) -> u64
+fn start_of_packets(start: Option<u64>) -> u64
     ensures { result ≡ packets_start start }
 {
     match start {
-        OptionU64::Some(n) => n,
-        OptionU64::None => 0,
+        Some(n) => n,
+        None => 0,
     }
 }
 
@@ -73,27 +73,27 @@ fn is_waveform(version: Version, global_encoding: u16, start: u64) -> bool
 }
 
 // Where the later records start, or 0.
-fn start_of(waveform: bool, packets: u64, evlr: OptionEvlr) -> u64
+fn start_of(waveform: bool, packets: u64, evlr: Option<Evlr>) -> u64
     ensures { result ≡ cond waveform packets (evlr_start evlr) }
 {
     if waveform {
         return packets;
     }
     match evlr {
-        OptionEvlr::Some(pair) => pair.start_of_first_evlr,
-        OptionEvlr::None => 0,
+        Some(pair) => pair.start_of_first_evlr,
+        None => 0,
     }
 }
 
 // How many later records there are.
-fn number_of(waveform: bool, evlr: OptionEvlr) -> u32
+fn number_of(waveform: bool, evlr: Option<Evlr>) -> u32
     ensures { result ≡ cond waveform 1 (evlr_count evlr) }
 {
     if waveform {
         return 1;
     }
     match evlr {
-        OptionEvlr::Some(pair) => pair.number_of_evlrs,
-        OptionEvlr::None => 0,
+        Some(pair) => pair.number_of_evlrs,
+        None => 0,
     }
 }

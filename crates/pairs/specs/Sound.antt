@@ -1,23 +1,18 @@
 -- What a plan that is made is: sound.
-use Rattle.std.specs.Prelude.{ℕ, ◌*◌, ◌≤◌, ◌<◌, ◌^◌, ◌≡◌, refl, Bool, true, false, cond, eqb}
+use Rattle.std.specs.Prelude.{Option, Some, None, Result, Ok, Err, ℕ, ◌*◌, ◌≤◌, ◌<◌, ◌^◌, ◌≡◌, refl, Bool, true, false, cond, eqb}
+use Rattle.refusal.specs.declared.Refusal.{Refusal}
 use Rattle.std.proofs.Common.{ap, sym, mul-le-mul_left, mul_left_comm, arith}
 use Rattle.format.specs.declared.Format.{Format}
-use Rattle.format.specs.declared.FormatLen.{FormatLen}
-use Rattle.format.specs.declared.FormatLen.TheVariants as len
 use Rattle.format.specs.Fields.{len_of}
 use Rattle.format.specs.Laws.{record_sum, len_is}
-use Rattle.pairs.specs.declared.Pair.{Pair}
-use Rattle.pairs.specs.declared.Pair.TheVariants.{Formats, None}
 use Rattle.pairs.specs.declared.Plan.{Plan}
-use Rattle.pairs.specs.declared.Planned.{Planned}
-use Rattle.pairs.specs.declared.Planned.TheVariants as planned
 use Rattle.pairs.specs.Pairs.{old_pair, new_pair, lengths_of, planned_by}
 use Rattle.pairs.specs.Paired.{Mates, shorter, six_one, seven_three, eight_three, nine_four, ten_five}
 
 -- the lengths are the formats', and the formats are a pair
 pub record Sound (up : Bool) (p : Plan) : Type 0 where
-  pub from : len_of p.source ≡ len.Is p.source_length
-  pub into : len_of p.target ≡ len.Is p.target_length
+  pub from : len_of p.source ≡ Ok p.source_length
+  pub into : len_of p.target ≡ Ok p.target_length
   pub mates : Mates up p.source p.target
 
 -- so the extra bytes are as many on both sides
@@ -39,12 +34,12 @@ bytes-told up p sound count n there memory =
     omega (arith, mul_left_comm count 2 p.source_length)
 
 -- the formats that are found are such a pair
-abbrev PairSound : Bool → Pair → Type 0
-PairSound up (Formats a b) = Mates up a b
+abbrev PairSound : Bool → Option (Format × Format) → Type 0
+PairSound up (Some (a, b)) = Mates up a b
 PairSound up None = Unit
 
 -- what holds of two pairs holds of whichever is chosen
-pub either : (Q : Pair → Type 0) (b : Bool) (x y : Pair) → Q x → Q y → Q (cond b x y)
+pub either : (Q : Option (Format × Format) → Type 0) (b : Bool) (x y : Option (Format × Format)) → Q x → Q y → Q (cond b x y)
 either Q true x y h k = h
 either Q false x y h k = k
 
@@ -63,18 +58,18 @@ new_sound n extra =
     (either (PairSound true) (eqb n 4) _ _ (nine_four extra) (either (PairSound true) (eqb n 5) _ None (ten_five extra) tt)))
 
 -- what is planned is sound, if it is a plan
-abbrev pub PlannedSound : Bool → Planned → Type 0
-PlannedSound up (planned.Is p) = Sound up p
-PlannedSound up (planned.Refused r) = Unit
+abbrev pub PlannedSound : Bool → Result Plan Refusal → Type 0
+PlannedSound up (Ok p) = Sound up p
+PlannedSound up (Err r) = Unit
 
-planned_sound : (up : Bool) (format : ℕ) (pair : Pair) → PairSound up pair → PlannedSound up (planned_by format pair)
+planned_sound : (up : Bool) (format : ℕ) (pair : Option (Format × Format)) → PairSound up pair → PlannedSound up (planned_by format pair)
 planned_sound up format None h = tt
-planned_sound up format (Formats a b) h = go (len_of a) (len_of b) refl refl
+planned_sound up format (Some (a, b)) h = go (len_of a) (len_of b) refl refl
   where
-    go : (x y : FormatLen) → len_of a ≡ x → len_of b ≡ y → PlannedSound up (lengths_of a b x y)
-    go (len.Is m) (len.Is n) f g = record { from = f; into = g; mates = h }
-    go (len.Is m) (len.Refused r) f g = tt
-    go (len.Refused r) y f g = tt
+    go : (x y : Result ℕ Refusal) → len_of a ≡ x → len_of b ≡ y → PlannedSound up (lengths_of a b x y)
+    go (Ok m) (Ok n) f g = record { from = f; into = g; mates = h }
+    go (Ok m) (Err r) f g = tt
+    go (Err r) y f g = tt
 
 pub old_planned : (format extra : ℕ) → PlannedSound false (planned_by format (old_pair format extra))
 old_planned format extra = planned_sound false format (old_pair format extra) (old_sound format extra)

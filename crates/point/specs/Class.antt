@@ -1,4 +1,5 @@
 -- A point with another class, and the record that says so: document 02, No. 13.
+use Rattle.std.specs.Prelude.{Some, None}
 use Rattle.std.specs.Prelude.{ℕ, ◌+◌, ◌*◌, ◌/◌, ◌%◌, ◌≤◌, ◌<◌, ◌≡◌, Bool, List, length, set, take}
 use Rattle.std.proofs.Math.Path.{refl}
 use Rattle.std.proofs.Common.{ap, ◌∙◌, inl, inr, arith, get_or-set_same, drop-set-lt}
@@ -16,10 +17,6 @@ use Rattle.flags.specs.declared.Flags.TheVariants.{TwoByte, ThreeByte}
 use Rattle.flags.specs.Readings.{class_of}
 use Rattle.flags.specs.Class.{with_class, has_three}
 use Rattle.angle.specs.declared.ScanAngle.TheVariants.{Rank, Scaled}
-use Rattle.point.specs.declared.MaybeTime.TheVariants as time
-use Rattle.point.specs.declared.MaybeColor.TheVariants as color
-use Rattle.point.specs.declared.MaybeWaveform.TheVariants as waveform
-use Rattle.point.specs.declared.MaybeNir.TheVariants as nir
 use Rattle.point.specs.declared.Point.{Point}
 use Rattle.point.specs.Read.{field_of, flags_at, angle_at, time_at, color_at, nir_at, waveform_at, maybe_waveform_at, point_of}
 
@@ -92,15 +89,15 @@ module _ (e : Bool) (s : List ℕ) (x : ℕ) where
   module _ (has : Bool) (at : ℕ) (h : class_place e < at) where
     time_past : time_at has at t ≡ time_at has at s
     unfolding time_at
-    time_past = λ i. cond has (time.Some (f64_of (past 8 at h i))) time.None
+    time_past = λ i. cond has (Some (f64_of (past 8 at h i))) None
 
     color_past : color_at has at t ≡ color_at has at s
     unfolding color_at
-    color_past = λ i. cond has (color.Some (record { red = past 2 at h i; green = past 2 (at + 2) (omega arith) i; blue = past 2 (at + 4) (omega arith) i })) color.None
+    color_past = λ i. cond has (Some (record { red = past 2 at h i; green = past 2 (at + 2) (omega arith) i; blue = past 2 (at + 4) (omega arith) i })) None
 
     nir_past : nir_at has at t ≡ nir_at has at s
     unfolding nir_at
-    nir_past = λ i. cond has (nir.Some (past 2 at h i)) nir.None
+    nir_past = λ i. cond has (Some (past 2 at h i)) None
 
     wave_past : waveform_at at t ≡ waveform_at at s
     unfolding waveform_at
@@ -128,7 +125,7 @@ module _ (e : Bool) (s : List ℕ) (x : ℕ) where
 
     maybe_wave_past : maybe_waveform_at has at t ≡ maybe_waveform_at has at s
     unfolding maybe_waveform_at
-    maybe_wave_past = λ i. cond has (waveform.Some (wave_past i)) waveform.None
+    maybe_wave_past = λ i. cond has (Some (wave_past i)) None
 
 -- and the flags are those with the class
 there : (s : List ℕ) (at x : ℕ) → at < length s → num 1 at (set s at x) ≡ x

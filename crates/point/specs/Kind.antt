@@ -1,5 +1,6 @@
 -- Fields of a point by the format's kind: X, Y and Z are the stored numbers; new records have three bytes of flags and a scaled angle, old
 -- ones two and a rank; a format with time, colours or near infrared shows what is stored, one without near infrared has none.
+use Rattle.std.specs.Prelude.{Some, None}
 use Rattle.std.specs.Prelude.{ℕ, ◌+◌, ◌≡◌, true, false, List}
 use Rattle.std.proofs.Math.Path.{refl}
 use Rattle.std.specs.Int.{w8, w16, w32}
@@ -13,9 +14,6 @@ use Rattle.format.specs.Fields.{place_of}
 use Rattle.flags.specs.declared.Flags.TheVariants.{TwoByte, ThreeByte}
 use Rattle.angle.specs.declared.ScanAngle.TheVariants.{Rank, Scaled}
 use Rattle.point.specs.declared.Color.{Color}
-use Rattle.point.specs.declared.MaybeTime.TheVariants as time
-use Rattle.point.specs.declared.MaybeColor.TheVariants as color
-use Rattle.point.specs.declared.MaybeNir.TheVariants.{Some, None}
 use Rattle.point.specs.Read.{number_in, flags_at, angle_at, time_at, color_at, nir_at, point_of}
 
 -- the three numbers of the colour field
@@ -51,11 +49,11 @@ module _ (f : Format) (s : List ℕ) where
   unfolding point_of angle_at
   old_angle old = rw old
 
-  pub stored_time : f.has_gps_time ≡ true → (point_of f s).gps_time ≡ time.Some (f64_of (number_in f GpsTime s))
+  pub stored_time : f.has_gps_time ≡ true → (point_of f s).gps_time ≡ Some (f64_of (number_in f GpsTime s))
   unfolding point_of time_at
   stored_time has = rw has
 
-  pub stored_color : f.has_color ≡ true → (point_of f s).color ≡ color.Some (color_in f s)
+  pub stored_color : f.has_color ≡ true → (point_of f s).color ≡ Some (color_in f s)
   unfolding point_of color_at
   stored_color has = rw has
 

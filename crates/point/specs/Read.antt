@@ -1,4 +1,7 @@
 -- What a point record says: each field is the number at the table's place for it, in the table's width (document 01, "Record layouts").
+use Rattle.std.specs.Prelude.{Option, Some, None, Result, Ok, Err}
+use Rattle.refusal.specs.declared.Refusal.{Refusal}
+use Rattle.le.specs.declared.float.F64.{F64}
 use Rattle.std.specs.Prelude.{ℕ, ◌+◌, Bool, cond, List, [], ltb, pos, length, take, drop}
 use Rattle.std.specs.Int.{w8, w16, w32}
 use Rattle.std.proofs.Common.{to_z}
@@ -6,8 +9,6 @@ use Rattle.refusal.specs.declared.Refusal.TheVariants.{Short}
 use Rattle.le.specs.Le.{num}
 use Rattle.le.specs.Real.{f32_of, f64_of}
 use Rattle.format.specs.declared.Format.{Format}
-use Rattle.format.specs.declared.FormatLen.{FormatLen}
-use Rattle.format.specs.declared.FormatLen.TheVariants as len
 use Rattle.format.specs.declared.Field.{Field}
 use Rattle.format.specs.declared.Field.TheVariants.{X, Y, Z, Intensity, Flags, UserData, ScanAngle, PointSourceId, GpsTime, Color, Nir, Waveform, ExtraBytes}
 use Rattle.format.specs.Fields.{size_of, place_of, len_of}
@@ -15,18 +16,9 @@ use Rattle.flags.specs.declared.Flags as flags
 use Rattle.flags.specs.declared.Flags.TheVariants.{TwoByte, ThreeByte}
 use Rattle.angle.specs.declared.ScanAngle as angle
 use Rattle.angle.specs.declared.ScanAngle.TheVariants.{Rank, Scaled}
+use Rattle.point.specs.declared.Color as color
 use Rattle.point.specs.declared.Waveform as waveform
-use Rattle.point.specs.declared.MaybeTime as time
-use Rattle.point.specs.declared.MaybeTime.TheVariants as some-time
-use Rattle.point.specs.declared.MaybeColor as maybe-color
-use Rattle.point.specs.declared.MaybeColor.TheVariants as some-color
-use Rattle.point.specs.declared.MaybeWaveform as maybe-waveform
-use Rattle.point.specs.declared.MaybeWaveform.TheVariants as some-waveform
-use Rattle.point.specs.declared.MaybeNir as maybe-nir
-use Rattle.point.specs.declared.MaybeNir.TheVariants as some-nir
 use Rattle.point.specs.declared.Point.{Point}
-use Rattle.point.specs.declared.PointRead.{PointRead}
-use Rattle.point.specs.declared.PointRead.TheVariants.{Is, Refused}
 
 -- the bytes of a field, and the number in them
 abbrev pub field_of : Format → Field → List ℕ → List ℕ
@@ -44,17 +36,17 @@ unfoldable pub angle_at : Bool → ℕ → List ℕ → angle.ScanAngle
 angle_at e at s = cond e (Scaled (to_z w16 (num 2 at s))) (Rank (to_z w8 (num 1 at s)))
 
 -- "time (f64)"
-unfoldable pub time_at : Bool → ℕ → List ℕ → time.MaybeTime
-time_at has at s = cond has (some-time.Some (f64_of (num 8 at s))) some-time.None
+unfoldable pub time_at : Bool → ℕ → List ℕ → Option F64
+time_at has at s = cond has (Some (f64_of (num 8 at s))) None
 
 -- "colour (three u16)"
-unfoldable pub color_at : Bool → ℕ → List ℕ → maybe-color.MaybeColor
+unfoldable pub color_at : Bool → ℕ → List ℕ → Option color.Color
 color_at has at s =
-    cond has (some-color.Some (record { red = num 2 at s; green = num 2 (at + 2) s; blue = num 2 (at + 4) s })) some-color.None
+    cond has (Some (record { red = num 2 at s; green = num 2 (at + 2) s; blue = num 2 (at + 4) s })) None
 
 -- "NIR (u16)"; document 02, No. 5: "zero as a value; missing remains for formats without the field"
-unfoldable pub nir_at : Bool → ℕ → List ℕ → maybe-nir.MaybeNir
-nir_at has at s = cond has (some-nir.Some (num 2 at s)) some-nir.None
+unfoldable pub nir_at : Bool → ℕ → List ℕ → Option ℕ
+nir_at has at s = cond has (Some (num 2 at s)) None
 
 -- "A waveform holds four f32 numbers after an index (u8), an offset (u64) and a size (u32)", 29 bytes; a NaN's bits are kept beside
 unfoldable pub waveform_at : ℕ → List ℕ → waveform.Waveform
@@ -75,8 +67,8 @@ waveform_at at s =
       };
     }
 
-unfoldable pub maybe_waveform_at : Bool → ℕ → List ℕ → maybe-waveform.MaybeWaveform
-maybe_waveform_at has at s = cond has (some-waveform.Some (waveform_at at s)) some-waveform.None
+unfoldable pub maybe_waveform_at : Bool → ℕ → List ℕ → Option waveform.Waveform
+maybe_waveform_at has at s = cond has (Some (waveform_at at s)) None
 
 -- the point in the first bytes of s
 unfoldable pub point_of : Format → List ℕ → Point
@@ -97,21 +89,21 @@ point_of f s =
     }
 
 -- a record of n bytes, or 1 with the bytes wanted
-unfoldable pub sized_of : Format → ℕ → List ℕ → PointRead
-sized_of f n s = cond (ltb (length s) n) (Refused (Short n)) (Is (point_of f s))
+unfoldable pub sized_of : Format → ℕ → List ℕ → Result Point Refusal
+sized_of f n s = cond (ltb (length s) n) (Err (Short n)) (Ok (point_of f s))
 
 -- "Single reads check 8, then 1": by what the format's length answers
-abbrev pub read_after : Format → List ℕ → FormatLen → PointRead
-read_after f s (len.Is n) = sized_of f n s
-read_after f s (len.Refused r) = Refused r
+abbrev pub read_after : Format → List ℕ → Result ℕ Refusal → Result Point Refusal
+read_after f s (Ok n) = sized_of f n s
+read_after f s (Err r) = Err r
 
-unfoldable pub read_of : Format → List ℕ → PointRead
+unfoldable pub read_of : Format → List ℕ → Result Point Refusal
 read_of f s = read_after f s (len_of f)
 
 -- the extra bytes: the record's last, and none where the read is refused
-abbrev pub extra_after : Format → List ℕ → FormatLen → List ℕ
-extra_after f s (len.Is n) = cond (ltb (length s) n) [] (field_of f ExtraBytes s)
-extra_after f s (len.Refused r) = []
+abbrev pub extra_after : Format → List ℕ → Result ℕ Refusal → List ℕ
+extra_after f s (Ok n) = cond (ltb (length s) n) [] (field_of f ExtraBytes s)
+extra_after f s (Err r) = []
 
 unfoldable pub extra_of : Format → List ℕ → List ℕ
 extra_of f s = extra_after f s (len_of f)
@@ -128,8 +120,8 @@ no_point =
       scan_angle = Rank (pos 0);
       user_data = 0;
       point_source_id = 0;
-      gps_time = some-time.None;
-      color = some-color.None;
-      waveform = some-waveform.None;
-      nir = some-nir.None;
+      gps_time = None;
+      color = None;
+      waveform = None;
+      nir = None;
     }

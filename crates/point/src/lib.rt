@@ -9,7 +9,7 @@ ghost use Rattle.point.specs.Read.{field_of, flags_at, angle_at, time_at, color_
 
 use angle::ScanAngle;
 use flags::Flags;
-use format::{Field, Format, FormatLen};
+use format::{Field, Format};
 use le::float::F64;
 use refusal::Refusal;
 
@@ -41,32 +41,6 @@ pub struct Waveform {
     pub nans: WaveformNans,
 }
 
-// What a point may lack.
-
-#[derive(Clone, Copy)]
-pub enum MaybeTime {
-    Some(F64),
-    None,
-}
-
-#[derive(Clone, Copy)]
-pub enum MaybeColor {
-    Some(Color),
-    None,
-}
-
-#[derive(Clone, Copy)]
-pub enum MaybeWaveform {
-    Some(Waveform),
-    None,
-}
-
-#[derive(Clone, Copy)]
-pub enum MaybeNir {
-    Some(u16),
-    None,
-}
-
 // A point without its extra bytes, which stay in the caller's slice. The source id stands before the flags, unlike in the Rust: so
 // flags and angle are eight bytes that overlap with nothing of a refusal, and stay in a register where a point is read and written.
 #[derive(Clone, Copy)]
@@ -79,33 +53,27 @@ pub struct Point {
     pub flags: Flags,
     pub scan_angle: ScanAngle,
     pub user_data: u8,
-    pub gps_time: MaybeTime,
-    pub color: MaybeColor,
-    pub waveform: MaybeWaveform,
-    pub nir: MaybeNir,
-}
-
-#[derive(Clone, Copy)]
-pub enum PointRead {
-    Is(Point),
-    Refused(Refusal),
+    pub gps_time: Option<F64>,
+    pub color: Option<Color>,
+    pub waveform: Option<Waveform>,
+    pub nir: Option<u16>,
 }
 
 impl Point {
     // The point in the first bytes of s; refused 8 where the format is overlong, then 1 where bytes are lacking.
-    pub fn read_from(s: &[u8], format: Format) -> PointRead
+    pub fn read_from(s: &[u8], format: Format) -> Result<Point, Refusal>
         ensures { result ≡ read_of format s.now }
     {
-        match format.len() {
-            FormatLen::Is(n) => read_sized(s, format, n as usize),
-            FormatLen::Refused(refusal) => PointRead::Refused(refusal),
-        }
+        let n = format.len()?;
+        read_sized(s, format, n as usize)
     }
+}
 
-    // All zero, with two-byte flags and a rank, and nothing that may be missing.
-    pub fn default() -> Point
-        ensures { result ≡ no_point }
-    {
+// All zero, with two-byte flags and a rank, and nothing that may be missing.
+impl Default for Point {
+    ghost is_default = { λ p. p ≡ no_point };
+
+    fn default() -> Point {
         Point {
             x: 0,
             y: 0,
@@ -115,10 +83,10 @@ impl Point {
             scan_angle: ScanAngle::default(),
             user_data: 0,
             point_source_id: 0,
-            gps_time: MaybeTime::None,
-            color: MaybeColor::None,
-            waveform: MaybeWaveform::None,
-            nir: MaybeNir::None,
+            gps_time: None,
+            color: None,
+            waveform: None,
+            nir: None,
         }
     }
 }
@@ -128,20 +96,20 @@ pub fn extra_bytes(s: &[u8], format: Format) -> &[u8]
     ensures { result.now ≡ extra_of format s.now }
 {
     match format.len() {
-        FormatLen::Is(n) => extra_sized(s, format, n as usize),
-        FormatLen::Refused(_) => &s[..0],
+        Ok(n) => extra_sized(s, format, n as usize),
+        Err(_) => &s[..0],
     }
 }
 
 // The point of a format whose record has n bytes.
-fn read_sized(s: &[u8], format: Format, n: usize) -> PointRead
+fn read_sized(s: &[u8], format: Format, n: usize) -> Result<Point, Refusal>
     requires { n ≡ record_bytes format }
     ensures { result ≡ sized_of format n s.now }
 {
     if s.len() < n {
-        return PointRead::Refused(Refusal::Short(n as u64));
+        return Err(Refusal::Short(n as u64));
     }
-    PointRead::Is(read_whole(s, format))
+    Ok(read_whole(s, format))
 }
 
 // The fields of a record, each at the format's place for it.
@@ -209,53 +177,53 @@ fn part_at(s: &[u8], at: usize, n: usize) -> &[u8]
 }
 
 // The time, where the format has it.
-fn time_at(s: &[u8], has: bool, at: usize) -> MaybeTime
+fn time_at(s: &[u8], has: bool, at: usize) -> Option<F64>
     requires { at + cond has 8 0 ≤ length s.now }
     ensures { result ≡ time_at has at s.now }
 {
     if has {
         let part = part_at(s, at, 8);
-        return MaybeTime::Some(le::f64_at(part, 0));
+        return Some(le::f64_at(part, 0));
     }
-    MaybeTime::None
+    None
 }
 
 // The colour, where the format has it.
-fn color_at(s: &[u8], has: bool, at: usize) -> MaybeColor
+fn color_at(s: &[u8], has: bool, at: usize) -> Option<Color>
     requires { at + cond has 6 0 ≤ length s.now }
     ensures { result ≡ color_at has at s.now }
 {
     if has {
         let part = part_at(s, at, 6);
-        return MaybeColor::Some(Color {
+        return Some(Color {
             red: le::u16_at(part, 0),
             green: le::u16_at(part, 2),
             blue: le::u16_at(part, 4),
         });
     }
-    MaybeColor::None
+    None
 }
 
 // The near infrared, where the format has it: 0 is a number like any other.
-fn nir_at(s: &[u8], has: bool, at: usize) -> MaybeNir
+fn nir_at(s: &[u8], has: bool, at: usize) -> Option<u16>
     ensures { result ≡ nir_at has at s.now }
 {
     if has {
-        return MaybeNir::Some(le::u16_at(s, at));
+        return Some(le::u16_at(s, at));
     }
-    MaybeNir::None
+    None
 }
 
 // The waveform, where the format has it.
-fn waveform_at(s: &[u8], has: bool, at: usize) -> MaybeWaveform
+fn waveform_at(s: &[u8], has: bool, at: usize) -> Option<Waveform>
     requires { at + cond has 29 0 ≤ length s.now }
     ensures { result ≡ maybe_waveform_at has at s.now }
 {
     if has {
         let part = part_at(s, at, 29);
-        return MaybeWaveform::Some(Waveform::read_from(part));
+        return Some(Waveform::read_from(part));
     }
-    MaybeWaveform::None
+    None
 }
 
 impl Waveform {

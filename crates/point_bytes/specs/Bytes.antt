@@ -1,4 +1,8 @@
 -- The bytes of the parts of a point record, field after field as the table has them (document 01, "Record layouts").
+use Rattle.std.specs.Prelude.{Option, Some, None}
+use Rattle.point.specs.declared.Color.{Color}
+use Rattle.le.specs.declared.float.F64.{F64}
+use Rattle.point.specs.declared.Waveform.{Waveform}
 use Rattle.std.specs.Prelude.{ℕ, List, [], ◌∷◌, ◌++◌, replicate}
 use Rattle.std.specs.Float.{binary32}
 use Rattle.std.specs.Int.{w8, w16, w32}
@@ -9,28 +13,20 @@ use Rattle.flags.specs.declared.ThreeBytes.{ThreeBytes}
 use Rattle.flags.specs.Bytes.{three_bytes_of}
 use Rattle.angle.specs.Angle.{to_rank, to_scaled}
 use Rattle.point.specs.declared.Waveform as waveform
-use Rattle.point.specs.declared.MaybeTime.{MaybeTime}
-use Rattle.point.specs.declared.MaybeTime.TheVariants as some-time
-use Rattle.point.specs.declared.MaybeColor.{MaybeColor}
-use Rattle.point.specs.declared.MaybeColor.TheVariants as some-color
-use Rattle.point.specs.declared.MaybeWaveform.{MaybeWaveform}
-use Rattle.point.specs.declared.MaybeWaveform.TheVariants as some-waveform
-use Rattle.point.specs.declared.MaybeNir.{MaybeNir}
-use Rattle.point.specs.declared.MaybeNir.TheVariants as some-nir
 use Rattle.point.specs.declared.Point.{Point}
 
 -- "On writing, a missing time, colour, NIR or waveform is zero bits"
-abbrev pub time_bytes : MaybeTime → List ℕ
-time_bytes (some-time.Some t) = bytes 8 (f64_bits_of t)
-time_bytes some-time.None = replicate 8 0
+abbrev pub time_bytes : Option F64 → List ℕ
+time_bytes (Some t) = bytes 8 (f64_bits_of t)
+time_bytes None = replicate 8 0
 
-abbrev pub color_bytes : MaybeColor → List ℕ
-color_bytes (some-color.Some c) = bytes 2 c.red ++ (bytes 2 c.green ++ bytes 2 c.blue)
-color_bytes some-color.None = replicate 6 0
+abbrev pub color_bytes : Option Color → List ℕ
+color_bytes (Some c) = bytes 2 c.red ++ (bytes 2 c.green ++ bytes 2 c.blue)
+color_bytes None = replicate 6 0
 
-abbrev pub nir_bytes : MaybeNir → List ℕ
-nir_bytes (some-nir.Some n) = bytes 2 n
-nir_bytes some-nir.None = replicate 2 0
+abbrev pub nir_bytes : Option ℕ → List ℕ
+nir_bytes (Some n) = bytes 2 n
+nir_bytes None = replicate 2 0
 
 -- index, offset, size and the bits of four floats
 abbrev pub waveform_list : ℕ → ℕ → ℕ → ℕ → ℕ → ℕ → ℕ → List ℕ
@@ -46,9 +42,9 @@ waveform_of w =
     (pattern_of binary32 w.y_t w.nans.y_t)
     (pattern_of binary32 w.z_t w.nans.z_t)
 
-abbrev pub waveform_bytes : MaybeWaveform → List ℕ
-waveform_bytes (some-waveform.Some w) = waveform_of w
-waveform_bytes some-waveform.None = replicate 29 0
+abbrev pub waveform_bytes : Option Waveform → List ℕ
+waveform_bytes (Some w) = waveform_of w
+waveform_bytes None = replicate 29 0
 
 -- the three bytes of flags in an extended format
 abbrev pub three_list : ThreeBytes → List ℕ

@@ -1,4 +1,5 @@
 -- A piece that the format has is laid at the table's place for it, and one that it lacks is not.
+use Rattle.std.specs.Prelude.{Ok}
 use Prim.Native.Nat.{ℕ, ◌+◌, ◌≤◌}
 use mathlib.Core.Path.{◌≡◌, refl, ap, sym, ◌∙◌}
 use mathlib.Core.Bool.{Bool, true, false}
@@ -7,7 +8,6 @@ use native.Mathlib.Nat.{zero-add}
 use native.Mathlib.Omega.{arith}
 use lib.ListN.{length, drop, length-append}
 use lib.Seq.{sets}
-use Rattle.lent.specs.declared.Wrote.TheVariants.{Bytes}
 use Rattle.lent.specs.Laws.{whole, sets_append}
 use Rattle.fields.specs.Table.{Stored, done, store, joined}
 use Rattle.fields.specs.Laws.{stored-joined}
@@ -45,9 +45,9 @@ module _ (f : Format) (p : Point) (e : List ℕ) (taken : Taken f p e) (core : L
   pub core-fits : length core ≤ record_bytes f
   core-fits = omega (arith, sym (record_length_lem f p e taken) ∙ ap length is ∙ length-append core (joined (field_bytes f p e) (rest_of f)))
 
-  pub written : (n : ℕ) (d : List ℕ) {h r : List ℕ} → n ≡ record_bytes f → n ≤ length d → length core ≡ place_of f GpsTime → h ≡ sets d 0 core → Stored (size_of f) (place_of f) (field_bytes f p e) h (rest_of f) r → (Bytes n, r) ≡ sized_of f p e n d
+  pub written : (n : ℕ) (d : List ℕ) {h r : List ℕ} → n ≡ record_bytes f → n ≤ length d → length core ≡ place_of f GpsTime → h ≡ sets d 0 core → Stored (size_of f) (place_of f) (field_bytes f p e) h (rest_of f) r → (Ok n, r) ≡ sized_of f p e n d
   written n d {h} {r} whole_is room long front rest =
       let put : r ≡ sets h (place_of f GpsTime) (joined (field_bytes f p e) (rest_of f)) = stored-joined (size_of f) (field_bytes f p e) (place_of f) (rest_of f) (place_of f GpsTime) (rest_follow f) rest in
       let both : sets h (place_of f GpsTime) (joined (field_bytes f p e) (rest_of f)) ≡ sets d 0 (record_of f p e) = rw (front, ← long, is) (ap (λ (k : ℕ). sets (sets d 0 core) k (joined (field_bytes f p e) (rest_of f))) (sym (zero-add (length core))) ∙ sym (sets_append d core (joined (field_bytes f p e) (rest_of f)) 0)) in
       let laid : r ≡ record_of f p e ++ drop n d = put ∙ both ∙ whole d (record_of f p e) n (record_length_lem f p e taken ∙ sym whole_is) room in
-      ap (λ (l : List ℕ). (Bytes n, l)) laid ∙ sym (taken-sized f p e taken n d room)
+      ap (λ (l : List ℕ). (Ok n, l)) laid ∙ sym (taken-sized f p e taken n d room)

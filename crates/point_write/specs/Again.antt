@@ -1,4 +1,6 @@
 -- A field that stands at its place is read as it was.
+use Rattle.std.specs.Prelude.{Option, Some, None, Ok}
+use Rattle.le.specs.declared.float.F64.{F64}
 use Prim.Native.Nat.{ℕ, ◌+◌, ◌<◌, ◌^◌}
 use Rattle.std.specs.Prelude.{◌≡◌, Bool, cond, Float, ℤ, take, drop}
 use Rattle.std.proofs.Math.Path.{refl, ap}
@@ -16,26 +18,19 @@ use Rattle.le.specs.Real.{pattern_of, f32_of, f64_of, f64_bits_of}
 use Rattle.fields.specs.Laws.{every, parts-joined}
 use Rattle.format.specs.declared.Format.{Format}
 use Rattle.format.specs.declared.Field.{Field}
+use Rattle.point.specs.declared.Color as color
+use Rattle.point.specs.declared.Waveform as waveform
 use Rattle.format.specs.declared.Field.TheVariants.{X, Y, Z, Intensity, Flags, UserData, ScanAngle, PointSourceId, GpsTime, Color, Nir, Waveform, ExtraBytes}
 use Rattle.format.specs.Fields.{fields_of, size_of, place_of, has_of}
 use Rattle.format.specs.Laws.{fields_follow}
 use Rattle.format.specs.Each.{field-of}
 use Rattle.flags.specs.declared.Flags as flags
 use Rattle.flags.specs.declared.Flags.TheVariants.{TwoByte, ThreeByte}
-use Rattle.flags.specs.declared.TwoBytes.TheVariants as two
 use Rattle.flags.specs.Bytes.{two_bytes_of, three_bytes_of}
 use Rattle.flags.specs.Laws.{two_kept}
 use Rattle.angle.specs.declared.ScanAngle as angle
 use Rattle.angle.specs.declared.ScanAngle.TheVariants.{Rank, Scaled}
 use Rattle.angle.specs.Angle.{to_rank, to_scaled}
-use Rattle.point.specs.declared.MaybeTime.{MaybeTime}
-use Rattle.point.specs.declared.MaybeTime.TheVariants as some-time
-use Rattle.point.specs.declared.MaybeColor.{MaybeColor}
-use Rattle.point.specs.declared.MaybeColor.TheVariants as some-color
-use Rattle.point.specs.declared.MaybeWaveform.{MaybeWaveform}
-use Rattle.point.specs.declared.MaybeWaveform.TheVariants as some-waveform
-use Rattle.point.specs.declared.MaybeNir.{MaybeNir}
-use Rattle.point.specs.declared.MaybeNir.TheVariants as some-nir
 use Rattle.point.specs.declared.Point.{Point}
 use Rattle.point.specs.Read.{field_of, flags_at, angle_at, time_at, color_at, nir_at, waveform_at, maybe_waveform_at, point_of}
 use Rattle.point_bytes.specs.Bytes.{time_bytes, color_bytes, nir_bytes, waveform_bytes, three_list}
@@ -72,35 +67,35 @@ module _ (s : List ℕ) where
   angle_again false at (Scaled n) h e = absurd h
 
   -- what a format may lack
-  time_again : (has : Bool) (at : ℕ) (t : MaybeTime) → TimeHeld has t → (has ≡ true → take 8 (drop at s) ≡ time_bytes t) → time_at has at s ≡ t
+  time_again : (has : Bool) (at : ℕ) (t : Option F64) → TimeHeld has t → (has ≡ true → take 8 (drop at s) ≡ time_bytes t) → time_at has at s ≡ t
   unfolding time_at
-  time_again true at (some-time.Some t) h e = ap some-time.Some (ap f64_of (num-bytes 8 at s (f64_bits_of t) h.fits (e refl)) ∙ h.own)
-  time_again false at some-time.None h e = refl
-  time_again true at some-time.None h e = absurd h
-  time_again false at (some-time.Some t) h e = absurd h
+  time_again true at (Some t) h e = ap Some (ap f64_of (num-bytes 8 at s (f64_bits_of t) h.fits (e refl)) ∙ h.own)
+  time_again false at None h e = refl
+  time_again true at None h e = absurd h
+  time_again false at (Some t) h e = absurd h
 
-  color_again : (has : Bool) (at : ℕ) (c : MaybeColor) → ColorHeld has c → (has ≡ true → take 6 (drop at s) ≡ color_bytes c) → color_at has at s ≡ c
+  color_again : (has : Bool) (at : ℕ) (c : Option color.Color) → ColorHeld has c → (has ≡ true → take 6 (drop at s) ≡ color_bytes c) → color_at has at s ≡ c
   unfolding color_at
-  color_again true at (some-color.Some c) (red, (green, blue)) e =
+  color_again true at (Some c) (red, (green, blue)) e =
       let read = nums-bytes 2 c.red ((2, c.green) ∷ (2, c.blue) ∷ []) at s red (green, (blue, tt)) (e refl) in
       rw (read.0, read.1.0, read.1.1.0)
-  color_again false at some-color.None h e = refl
-  color_again true at some-color.None h e = absurd h
-  color_again false at (some-color.Some c) h e = absurd h
+  color_again false at None h e = refl
+  color_again true at None h e = absurd h
+  color_again false at (Some c) h e = absurd h
 
-  nir_again : (has : Bool) (at : ℕ) (n : MaybeNir) → NirHeld has n → (has ≡ true → take 2 (drop at s) ≡ nir_bytes n) → nir_at has at s ≡ n
+  nir_again : (has : Bool) (at : ℕ) (n : Option ℕ) → NirHeld has n → (has ≡ true → take 2 (drop at s) ≡ nir_bytes n) → nir_at has at s ≡ n
   unfolding nir_at
-  nir_again true at (some-nir.Some n) h e = ap some-nir.Some (num-bytes 2 at s n h (e refl))
-  nir_again false at some-nir.None h e = refl
-  nir_again true at some-nir.None h e = absurd h
-  nir_again false at (some-nir.Some n) h e = absurd h
+  nir_again true at (Some n) h e = ap Some (num-bytes 2 at s n h (e refl))
+  nir_again false at None h e = refl
+  nir_again true at None h e = absurd h
+  nir_again false at (Some n) h e = absurd h
 
   f32_again : {value : Float} {nan : ℕ} (at : ℕ) → F32Held value nan → num 4 at s ≡ pattern_of binary32 value nan → f32_of (num 4 at s) ≡ record { value = value; nan = nan }
   f32_again at h e = ap f32_of e ∙ h.own
 
-  waveform_again : (has : Bool) (at : ℕ) (w : MaybeWaveform) → WaveformHeld has w → (has ≡ true → take 29 (drop at s) ≡ waveform_bytes w) → maybe_waveform_at has at s ≡ w
+  waveform_again : (has : Bool) (at : ℕ) (w : Option waveform.Waveform) → WaveformHeld has w → (has ≡ true → take 29 (drop at s) ≡ waveform_bytes w) → maybe_waveform_at has at s ≡ w
   unfolding maybe_waveform_at waveform_at
-  waveform_again true at (some-waveform.Some w) h e =
+  waveform_again true at (Some w) h e =
       let location : ℕ = pattern_of binary32 w.return_point_waveform_location w.nans.return_point_waveform_location in
       let x : ℕ = pattern_of binary32 w.x_t w.nans.x_t in
       let y : ℕ = pattern_of binary32 w.y_t w.nans.y_t in
@@ -110,12 +105,12 @@ module _ (s : List ℕ) where
       let read = nums-bytes 1 w.wave_packet_descriptor_index vs at s h.index fit (e refl ∙ rw (mod-eq_of_lt h.index)) in
       let floats = read.1.1.1 in
       rw (read.0, read.1.0, read.1.1.0, f32_again (at + 13) h.location floats.0, f32_again (at + 17) h.x floats.1.0, f32_again (at + 21) h.y floats.1.1.0, f32_again (at + 25) h.z floats.1.1.1.0)
-  waveform_again false at some-waveform.None h e = refl
-  waveform_again true at some-waveform.None h e = absurd h
-  waveform_again false at (some-waveform.Some w) h e = absurd h
+  waveform_again false at None h e = refl
+  waveform_again true at None h e = absurd h
+  waveform_again false at (Some w) h e = absurd h
 
 -- flags of the format's kind fit
-flags_taken : (c : Bool) (fl : flags.Flags) → FlagsHeld c fl → c ≡ false → (a : ℕ) × (b : ℕ) × (two_bytes_of fl ≡ two.Bytes a b)
+flags_taken : (c : Bool) (fl : flags.Flags) → FlagsHeld c fl → c ≡ false → (a : ℕ) × (b : ℕ) × (two_bytes_of fl ≡ Ok (a, b))
 flags_taken c (TwoByte a b) h old = (a, b, two_kept a b)
 flags_taken true (ThreeByte a b c) h old = let z : ◌≡◌ {A = ℕ} 0 1 = cc in absurd (omega arith)
 flags_taken false (ThreeByte a b c) h old = absurd h
@@ -156,9 +151,9 @@ module _ (f : Format) (p : Point) (e : List ℕ) (held : Held f p e) where
   extra_again rest = written_at rest ExtraBytes refl
 
 -- a point without near infrared is written as one with 0
-nir_shown : (has : Bool) (n : MaybeNir) → nir_bytes n ≡ nir_bytes (nir_in has n)
-nir_shown true some-nir.None = refl
-nir_shown true (some-nir.Some n) = refl
+nir_shown : (has : Bool) (n : Option ℕ) → nir_bytes n ≡ nir_bytes (nir_in has n)
+nir_shown true None = refl
+nir_shown true (Some n) = refl
 nir_shown false n = refl
 
 pub shown_record : (f : Format) (p : Point) (e : List ℕ) → record_of f p e ≡ record_of f (shown_in f p) e

@@ -1,4 +1,7 @@
 -- The points that a format can hold: every number in its range, and everything of the format's kind.
+use Rattle.std.specs.Prelude.{Option, Some, None}
+use Rattle.point.specs.declared.Color.{Color}
+use Rattle.point.specs.declared.Waveform.{Waveform}
 use Rattle.std.specs.Prelude.{ℕ, ◌<◌, ◌^◌, ◌≡◌, Bool, true, false, List, Float, length}
 use Rattle.std.specs.Float.{binary32}
 use Rattle.std.specs.Int.{w8, w16, w32}
@@ -11,14 +14,6 @@ use Rattle.flags.specs.declared.Flags.TheVariants.{TwoByte, ThreeByte}
 use Rattle.angle.specs.declared.ScanAngle as angle
 use Rattle.angle.specs.declared.ScanAngle.TheVariants.{Rank, Scaled}
 use Rattle.point.specs.declared.Waveform as waveform
-use Rattle.point.specs.declared.MaybeTime.{MaybeTime}
-use Rattle.point.specs.declared.MaybeTime.TheVariants as some-time
-use Rattle.point.specs.declared.MaybeColor.{MaybeColor}
-use Rattle.point.specs.declared.MaybeColor.TheVariants as some-color
-use Rattle.point.specs.declared.MaybeWaveform.{MaybeWaveform}
-use Rattle.point.specs.declared.MaybeWaveform.TheVariants as some-waveform
-use Rattle.point.specs.declared.MaybeNir.{MaybeNir}
-use Rattle.point.specs.declared.MaybeNir.TheVariants as some-nir
 use Rattle.point.specs.declared.Point.{Point}
 
 -- three bytes of flags in extended formats, else two
@@ -45,23 +40,23 @@ pub record F32Held (value : Float) (nan : ℕ) : Type 0 where
   pub own : f32_of (pattern_of binary32 value nan) ≡ record { value = value; nan = nan }
 
 -- what a format may lack is there exactly where the format has it
-abbrev pub TimeHeld : Bool → MaybeTime → Type 0
-TimeHeld true (some-time.Some t) = F64Held t
-TimeHeld false some-time.None = Unit
-TimeHeld true some-time.None = ⊥
-TimeHeld false (some-time.Some t) = ⊥
+abbrev pub TimeHeld : Bool → Option F64 → Type 0
+TimeHeld true (Some t) = F64Held t
+TimeHeld false None = Unit
+TimeHeld true None = ⊥
+TimeHeld false (Some t) = ⊥
 
-abbrev pub ColorHeld : Bool → MaybeColor → Type 0
-ColorHeld true (some-color.Some c) = (c.red < 65536) × ((c.green < 65536) × (c.blue < 65536))
-ColorHeld false some-color.None = Unit
-ColorHeld true some-color.None = ⊥
-ColorHeld false (some-color.Some c) = ⊥
+abbrev pub ColorHeld : Bool → Option Color → Type 0
+ColorHeld true (Some c) = (c.red < 65536) × ((c.green < 65536) × (c.blue < 65536))
+ColorHeld false None = Unit
+ColorHeld true None = ⊥
+ColorHeld false (Some c) = ⊥
 
-abbrev pub NirHeld : Bool → MaybeNir → Type 0
-NirHeld true (some-nir.Some n) = n < 65536
-NirHeld false some-nir.None = Unit
-NirHeld true some-nir.None = ⊥
-NirHeld false (some-nir.Some n) = ⊥
+abbrev pub NirHeld : Bool → Option ℕ → Type 0
+NirHeld true (Some n) = n < 65536
+NirHeld false None = Unit
+NirHeld true None = ⊥
+NirHeld false (Some n) = ⊥
 
 pub record OneWaveformHeld (w : waveform.Waveform) : Type 0 where
   pub index : w.wave_packet_descriptor_index < 256
@@ -72,11 +67,11 @@ pub record OneWaveformHeld (w : waveform.Waveform) : Type 0 where
   pub y : F32Held w.y_t w.nans.y_t
   pub z : F32Held w.z_t w.nans.z_t
 
-abbrev pub WaveformHeld : Bool → MaybeWaveform → Type 0
-WaveformHeld true (some-waveform.Some w) = OneWaveformHeld w
-WaveformHeld false some-waveform.None = Unit
-WaveformHeld true some-waveform.None = ⊥
-WaveformHeld false (some-waveform.Some w) = ⊥
+abbrev pub WaveformHeld : Bool → Option Waveform → Type 0
+WaveformHeld true (Some w) = OneWaveformHeld w
+WaveformHeld false None = Unit
+WaveformHeld true None = ⊥
+WaveformHeld false (Some w) = ⊥
 
 pub record Held (f : Format) (p : Point) (e : List ℕ) : Type 0 where
   pub x : SFits w32 p.x
@@ -94,9 +89,9 @@ pub record Held (f : Format) (p : Point) (e : List ℕ) : Type 0 where
   pub extra : length e ≡ f.extra_bytes
 
 -- "On writing, a missing .. NIR .. is zero bits", which a format that has the field reads as 0: what is read of a point that was written
-abbrev pub nir_in : Bool → MaybeNir → MaybeNir
-nir_in true some-nir.None = some-nir.Some 0
-nir_in true (some-nir.Some n) = some-nir.Some n
+abbrev pub nir_in : Bool → Option ℕ → Option ℕ
+nir_in true None = Some 0
+nir_in true (Some n) = Some n
 nir_in false n = n
 
 abbrev pub shown_in : Format → Point → Point

@@ -1,11 +1,11 @@
 -- A record is what stands before the time, and the rest.
+use Rattle.std.specs.Prelude.{Ok}
 use Rattle.std.specs.Prelude.{ℕ, ◌≡◌, true, false, List, ◌++◌, length}
 use Rattle.std.proofs.Math.Path.{refl}
 use Rattle.fields.specs.Table.{joined}
 use Rattle.format.specs.declared.Format.{Format}
 use Rattle.format.specs.Fields.{rest_of, fields_of}
 use Rattle.flags.specs.Bytes.{two_bytes_of}
-use Rattle.flags.specs.declared.TwoBytes.TheVariants.{Bytes}
 use Rattle.point.specs.declared.Point.{Point}
 use Rattle.point_bytes.specs.Bytes.{core_of, legacy_core_of}
 use Rattle.point_write.specs.Write.{field_bytes, record_of}
@@ -15,7 +15,7 @@ module _ (f : Format) (p : Point) (e : List ℕ) where
   unfolding record_of fields_of core_of
   extended_is h = simp h
 
-  pub legacy_is : (a b : ℕ) → f.is_extended ≡ false → two_bytes_of p.flags ≡ Bytes a b → record_of f p e ≡ legacy_core_of p a b ++ joined (field_bytes f p e) (rest_of f)
+  pub legacy_is : (a b : ℕ) → f.is_extended ≡ false → two_bytes_of p.flags ≡ Ok (a, b) → record_of f p e ≡ legacy_core_of p a b ++ joined (field_bytes f p e) (rest_of f)
   unfolding record_of fields_of legacy_core_of
   legacy_is a b h t = simp (h, t)
 

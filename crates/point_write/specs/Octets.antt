@@ -1,4 +1,7 @@
 -- The record of a point that its format can hold is a list of bytes.
+use Rattle.std.specs.Prelude.{Option, Some, None, Result}
+use Rattle.refusal.specs.declared.Refusal.{Refusal}
+use Rattle.le.specs.declared.float.F64.{F64}
 use Rattle.std.specs.Prelude.{ℕ, Bool, true, false, cond}
 use Rattle.std.proofs.Common.{sym, subst, of_z}
 use mathlib.Core.List.{List, [], ◌∷◌, ◌++◌}
@@ -11,25 +14,18 @@ use Rattle.le.specs.Real.{pattern_of, f64_bits_of}
 use Rattle.fields.specs.Table.{joined}
 use Rattle.format.specs.declared.Format.{Format}
 use Rattle.format.specs.declared.Field.{Field}
+use Rattle.point.specs.declared.Color as color
+use Rattle.point.specs.declared.Waveform as waveform
 use Rattle.format.specs.declared.Field.TheVariants.{X, Y, Z, Intensity, Flags, UserData, ScanAngle, PointSourceId, GpsTime, Color, Nir, Waveform, ExtraBytes}
 use Rattle.format.specs.Fields.{fields_of}
 use Rattle.flags.specs.declared.Flags as flags
 use Rattle.flags.specs.declared.Flags.TheVariants.{TwoByte, ThreeByte}
-use Rattle.flags.specs.declared.TwoBytes.{TwoBytes}
 use Rattle.flags.specs.declared.ThreeBytes.{ThreeBytes}
 use Rattle.flags.specs.Bytes.{two_bytes_of, three_bytes_of}
 use Rattle.flags.specs.Laws.{two_kept, three_kept}
 use Rattle.angle.specs.declared.ScanAngle as angle
 use Rattle.angle.specs.declared.ScanAngle.TheVariants.{Rank, Scaled}
 use Rattle.angle.specs.Angle.{to_rank, to_scaled}
-use Rattle.point.specs.declared.MaybeTime.{MaybeTime}
-use Rattle.point.specs.declared.MaybeTime.TheVariants as some-time
-use Rattle.point.specs.declared.MaybeColor.{MaybeColor}
-use Rattle.point.specs.declared.MaybeColor.TheVariants as some-color
-use Rattle.point.specs.declared.MaybeWaveform.{MaybeWaveform}
-use Rattle.point.specs.declared.MaybeWaveform.TheVariants as some-waveform
-use Rattle.point.specs.declared.MaybeNir.{MaybeNir}
-use Rattle.point.specs.declared.MaybeNir.TheVariants as some-nir
 use Rattle.point.specs.declared.Point.{Point}
 use Rattle.point_bytes.specs.Bytes.{time_bytes, color_bytes, nir_bytes, waveform_bytes, three_list}
 use Rattle.point_write.specs.Write.{two_list, field_bytes, record_of}
@@ -41,7 +37,7 @@ flags_made true (ThreeByte a b c) h =
     subst (λ (t : ThreeBytes). Bytes (three_list t)) (sym (three_kept a b c))
     (one_made a (b ∷ c ∷ []) h.0 (one_made b (c ∷ []) h.1.0 (one_made c [] h.1.1 none_made)))
 flags_made false (TwoByte a b) h =
-    subst (λ (t : TwoBytes). Bytes (two_list t)) (sym (two_kept a b)) (one_made a (b ∷ []) h.0 (one_made b [] h.1 none_made))
+    subst (λ (t : Result (ℕ × ℕ) Refusal). Bytes (two_list t)) (sym (two_kept a b)) (one_made a (b ∷ []) h.0 (one_made b [] h.1 none_made))
 flags_made true (TwoByte a b) h = absurd h
 flags_made false (ThreeByte a b c) h = absurd h
 
@@ -51,23 +47,23 @@ angle_made false (Rank r) h = one_made (of_z w8 r) [] (of_z_fits w8 r h).fits no
 angle_made false (Scaled n) h = absurd h
 
 -- of what a format may lack
-time_made : (t : MaybeTime) → Bytes (time_bytes t)
-time_made (some-time.Some t) = number_made 8 (f64_bits_of t)
-time_made some-time.None = zeros_made 8
+time_made : (t : Option F64) → Bytes (time_bytes t)
+time_made (Some t) = number_made 8 (f64_bits_of t)
+time_made None = zeros_made 8
 
-color_made : (c : MaybeColor) → Bytes (color_bytes c)
-color_made (some-color.Some c) =
+color_made : (c : Option color.Color) → Bytes (color_bytes c)
+color_made (Some c) =
     let blue = bytes 2 c.blue in
     let green = bytes 2 c.green in
     both_made (bytes 2 c.red) (green ++ blue) (number_made 2 c.red) (both_made green blue (number_made 2 c.green) (number_made 2 c.blue))
-color_made some-color.None = zeros_made 6
+color_made None = zeros_made 6
 
-nir_made : (n : MaybeNir) → Bytes (nir_bytes n)
-nir_made (some-nir.Some n) = number_made 2 n
-nir_made some-nir.None = zeros_made 2
+nir_made : (n : Option ℕ) → Bytes (nir_bytes n)
+nir_made (Some n) = number_made 2 n
+nir_made None = zeros_made 2
 
-waveform_made : (c : Bool) (w : MaybeWaveform) → WaveformHeld c w → Bytes (waveform_bytes w)
-waveform_made true (some-waveform.Some w) h =
+waveform_made : (c : Bool) (w : Option waveform.Waveform) → WaveformHeld c w → Bytes (waveform_bytes w)
+waveform_made true (Some w) h =
     let l = pattern_of binary32 w.return_point_waveform_location w.nans.return_point_waveform_location in
     let x = pattern_of binary32 w.x_t w.nans.x_t in
     let y = pattern_of binary32 w.y_t w.nans.y_t in
@@ -82,8 +78,8 @@ waveform_made true (some-waveform.Some w) h =
     (both_made (bytes 4 w.waveform_packet_size_in_bytes) floats (number_made 4 w.waveform_packet_size_in_bytes)
     (both_made (bytes 4 l) from_x (number_made 4 l)
     (both_made (bytes 4 x) from_y (number_made 4 x) (both_made (bytes 4 y) (bytes 4 z) (number_made 4 y) (number_made 4 z))))))
-waveform_made false (some-waveform.Some w) h = absurd h
-waveform_made c some-waveform.None h = zeros_made 29
+waveform_made false (Some w) h = absurd h
+waveform_made c None h = zeros_made 29
 
 module _ (f : Format) (p : Point) (e : List ℕ) (held : Held f p e) (extra : Bytes e) where
   field_made : (x : Field) → Bytes (field_bytes f p e x)

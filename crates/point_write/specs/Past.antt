@@ -1,14 +1,14 @@
 -- The reader looks at the bytes of the record and at none past them: what it finds is what was written, whatever stands after it.
+use Rattle.std.specs.Prelude.{Result, Ok}
+use Rattle.refusal.specs.declared.Refusal.{Refusal}
 use Rattle.std.specs.Prelude.{ℕ, ◌≤◌, ◌<◌, ◌≡◌, refl, Bool, true, false, List, ◌++◌, ltb, length, take, drop}
 use Rattle.std.proofs.Common.{ap, sym, ◌∙◌, arith, ltb-true, ltb-false, take-append-drop, length-take-le, take_all, take-take}
 use Rattle.le.specs.Le.{Bytes}
 use Rattle.format.specs.declared.Format.{Format}
-use Rattle.format.specs.declared.FormatLen.{FormatLen}
 use Rattle.format.specs.declared.Field.TheVariants.{ExtraBytes}
 use Rattle.format.specs.Fields.{record_bytes}
 use Rattle.format.specs.Length as len
 use Rattle.format.specs.Length.{Told, told}
-use Rattle.point.specs.declared.PointRead.TheVariants.{Is}
 use Rattle.point.specs.Read.{field_of, point_of, read_of, extra_of}
 use Rattle.point.specs.Answer.{read_whole, extra-whole, read_over, extra_over}
 use Rattle.point_write.specs.Write.{record_of}
@@ -47,10 +47,10 @@ module _ (f : Format) (s : List ℕ) (all : Bytes s) where
       t : List ℕ
       t = take (record_bytes f) s
 
-      go : {l : FormatLen} → Told f l → (read_of f t ≡ read_of f s) × (extra_of f t ≡ extra_of f s)
+      go : {l : Result ℕ Refusal} → Told f l → (read_of f t ≡ read_of f s) × (extra_of f t ≡ extra_of f s)
       go (len.over h) = (read_over f t h ∙ sym (read_over f s h), extra_over f t h ∙ sym (extra_over f s h))
       go (len.fits h) = (
-        either (read_of f) (record_bytes f) (omega arith) (λ room same. read_whole f t h (long room) ∙ ap Is (point_alike room t same) ∙ sym (read_whole f s h room)),
+        either (read_of f) (record_bytes f) (omega arith) (λ room same. read_whole f t h (long room) ∙ ap Ok (point_alike room t same) ∙ sym (read_whole f s h room)),
         either (extra_of f) (record_bytes f) (omega arith) (λ room same. extra-whole f t h (long room) ∙ extra_alike room t same ∙ sym (extra-whole f s h room)),
       )
         where

@@ -1,13 +1,12 @@
 -- What reading a record and writing one add up to.
+use Rattle.std.specs.Prelude.{Ok}
 use Rattle.std.specs.Prelude.{ℕ, ◌≤◌, ◌≡◌, List, ◌++◌, length, take, drop}
 use Rattle.std.proofs.Common.{ap, sym, ◌∙◌}
 use Rattle.le.specs.Le.{Bytes}
-use Rattle.lent.specs.declared.Wrote.TheVariants as wrote
 use Rattle.format.specs.declared.Format.{Format}
 use Rattle.format.specs.declared.Field.TheVariants.{ExtraBytes}
 use Rattle.format.specs.Fields.{record_bytes}
 use Rattle.point.specs.declared.Point.{Point}
-use Rattle.point.specs.declared.PointRead.TheVariants.{Is}
 use Rattle.point.specs.Read.{field_of, point_of, read_of, extra_of}
 use Rattle.point_write.specs.Write.{record_of, written_of}
 use Rattle.point_write.specs.Back.{record_back}
@@ -24,11 +23,11 @@ module _ (f : Format) (s : List ℕ) where
   read_then_written all h = record_back s all f h
 
   -- The same of the functions: what `read_from` and `extra_bytes` answer, `write_to` does not refuse where there is room, and it leaves the bytes read.
-  pub answer_then_written : Bytes s → (p : Point) → read_of f s ≡ Is p → (d : List ℕ) → record_bytes f ≤ length d → written_of f p (extra_of f s) d ≡ (wrote.Bytes (record_bytes f), take (record_bytes f) s ++ drop (record_bytes f) d)
+  pub answer_then_written : Bytes s → (p : Point) → read_of f s ≡ Ok p → (d : List ℕ) → record_bytes f ≤ length d → written_of f p (extra_of f s) d ≡ (Ok (record_bytes f), take (record_bytes f) s ++ drop (record_bytes f) d)
   answer_then_written all p r d h =
       let a : Answered f s p = answered f s p r in
       answered_written f s p a d h
-      ∙ ap (λ (l : List ℕ). (wrote.Bytes (record_bytes f), l ++ drop (record_bytes f) d)) (read_then_written all a.room)
+      ∙ ap (λ (l : List ℕ). (Ok (record_bytes f), l ++ drop (record_bytes f) d)) (read_then_written all a.room)
 
   -- "The reader never looks past the record's length", for the point, for a read with its refusals and for the extra bytes.
   pub never_past : Bytes s → (n : ℕ) → record_bytes f ≤ n → point_of f (take n s) ≡ point_of f s
@@ -58,7 +57,7 @@ module _ (f : Format) (p : Point) (e : List ℕ) (held : Held f p e) where
   extra-written_then_read = extra_again f p e held
 
   -- The same of the functions: where `write_to` does not refuse, `read_from` and `extra_bytes` answer what was written.
-  pub written_then_answered : (n : ℕ) (d left : List ℕ) → written_of f p e d ≡ (wrote.Bytes n, left) → (read_of f left ≡ Is p) × (extra_of f left ≡ e)
+  pub written_then_answered : (n : ℕ) (d left : List ℕ) → written_of f p e d ≡ (Ok n, left) → (read_of f left ≡ Ok p) × (extra_of f left ≡ e)
   written_then_answered = accepted_again f p e held
 
 -- "On writing, a missing .. NIR .. is zero bits", and document 02, No. 5, shows these as 0: a point without near infrared, written into a

@@ -1,29 +1,25 @@
 -- The bytes of a point record, its parts in the order of the table (document 01, "Record layouts"), and what writing one answers and leaves.
+use Rattle.std.specs.Prelude.{Result, Ok, Err}
+use Rattle.refusal.specs.declared.Refusal.{Refusal}
 use Rattle.std.specs.Prelude.{ℕ, cond, List, [], ◌∷◌, ◌++◌, ltb, eqb, length, drop}
 use Rattle.std.specs.Int.{w8, w16, w32}
 use Rattle.std.proofs.Common.{of_z}
 use Rattle.refusal.specs.declared.Refusal.TheVariants as refusal
 use Rattle.le.specs.Le.{bytes}
-use Rattle.lent.specs.declared.Wrote.{Wrote}
-use Rattle.lent.specs.declared.Wrote.TheVariants.{Bytes, Refused}
 use Rattle.fields.specs.Table.{joined}
 use Rattle.format.specs.declared.Format.{Format}
-use Rattle.format.specs.declared.FormatLen.{FormatLen}
-use Rattle.format.specs.declared.FormatLen.TheVariants as len
 use Rattle.format.specs.declared.Field.{Field}
 use Rattle.format.specs.declared.Field.TheVariants.{X, Y, Z, Intensity, Flags, UserData, ScanAngle, PointSourceId, GpsTime, Color, Nir, Waveform, ExtraBytes}
 use Rattle.format.specs.Fields.{fields_of, len_of}
-use Rattle.flags.specs.declared.TwoBytes.{TwoBytes}
-use Rattle.flags.specs.declared.TwoBytes.TheVariants as two
 use Rattle.flags.specs.Bytes.{two_bytes_of, three_bytes_of}
 use Rattle.angle.specs.Angle.{to_rank, to_scaled}
 use Rattle.point.specs.declared.Point.{Point}
 use Rattle.point_bytes.specs.Bytes.{time_bytes, color_bytes, nir_bytes, waveform_bytes, three_list}
 
 -- the two bytes of flags in a legacy format, where they fit
-abbrev pub two_list : TwoBytes → List ℕ
-two_list (two.Bytes a b) = a ∷ b ∷ []
-two_list (two.Refused r) = []
+abbrev pub two_list : Result (ℕ × ℕ) Refusal → List ℕ
+two_list (Ok (a, b)) = a ∷ b ∷ []
+two_list (Err r) = []
 
 -- the bytes of one field of a point with these extra bytes
 abbrev pub field_bytes : Format → Point → List ℕ → Field → List ℕ
@@ -47,21 +43,21 @@ unfoldable pub record_of : Format → Point → List ℕ → List ℕ
 record_of f p e = joined (field_bytes f p e) (fields_of f)
 
 -- a record of n bytes at the front of d; in legacy formats only where the flags fit
-abbrev pub flagged_of : Format → Point → List ℕ → ℕ → List ℕ → TwoBytes → Wrote × List ℕ
-flagged_of f p e n d (two.Bytes a b) = (Bytes n, record_of f p e ++ drop n d)
-flagged_of f p e n d (two.Refused r) = (Refused r, d)
+abbrev pub flagged_of : Format → Point → List ℕ → ℕ → List ℕ → Result (ℕ × ℕ) Refusal → Result ℕ Refusal × List ℕ
+flagged_of f p e n d (Ok (a, b)) = (Ok n, record_of f p e ++ drop n d)
+flagged_of f p e n d (Err r) = (Err r, d)
 
 -- "8 and 23 (point) .., then 22, then 15 to 18": after 8
-unfoldable pub sized_of : Format → Point → List ℕ → ℕ → List ℕ → Wrote × List ℕ
+unfoldable pub sized_of : Format → Point → List ℕ → ℕ → List ℕ → Result ℕ Refusal × List ℕ
 sized_of f p e n d =
     cond (eqb (length e) f.extra_bytes)
-    (cond (ltb (length d) n) (Refused (refusal.NoRoom n), d)
-    (cond f.is_extended (Bytes n, record_of f p e ++ drop n d) (flagged_of f p e n d (two_bytes_of p.flags))))
-    (Refused (refusal.ExtraBytes f.extra_bytes), d)
+    (cond (ltb (length d) n) (Err (refusal.NoRoom n), d)
+    (cond f.is_extended (Ok n, record_of f p e ++ drop n d) (flagged_of f p e n d (two_bytes_of p.flags))))
+    (Err (refusal.ExtraBytes f.extra_bytes), d)
 
-abbrev pub written_after : Format → Point → List ℕ → List ℕ → FormatLen → Wrote × List ℕ
-written_after f p e d (len.Is n) = sized_of f p e n d
-written_after f p e d (len.Refused r) = (Refused r, d)
+abbrev pub written_after : Format → Point → List ℕ → List ℕ → Result ℕ Refusal → Result ℕ Refusal × List ℕ
+written_after f p e d (Ok n) = sized_of f p e n d
+written_after f p e d (Err r) = (Err r, d)
 
-unfoldable pub written_of : Format → Point → List ℕ → List ℕ → Wrote × List ℕ
+unfoldable pub written_of : Format → Point → List ℕ → List ℕ → Result ℕ Refusal × List ℕ
 written_of f p e d = written_after f p e d (len_of f)

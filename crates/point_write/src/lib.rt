@@ -7,50 +7,59 @@ ghost use Rattle.fields.specs.Table.{Stored};
 ghost use Rattle.format.specs.Fields.{rest_of, size_of, place_of, record_bytes};
 ghost use Rattle.point_write.specs.Write.{field_bytes, sized_of, written_of};
 
-use flags::TwoBytes;
-use format::{Format, FormatLen};
-use lent::Wrote;
+use format::Format;
 use point::Point;
 use refusal::Refusal;
 
 // Writes a point and its extra bytes to the front of dst and answers the count; what lies past it stays. Refused, with nothing
 // written: 8 where the format is overlong, 23 where the extra bytes are not as many as the format's, 22 where there is no room,
 // and in a legacy format 15 to 18 as the flags' own.
-pub fn write_to(point: Point, extra: &[u8], dst: &mut [u8], format: Format) -> Wrote
+pub fn write_to(
+    point: Point,
+    extra: &[u8],
+    dst: &mut [u8],
+    format: Format,
+) -> Result<usize, Refusal>
     ensures { (result, dst.new) ≡ written_of format point extra.now dst.old }
 {
     match format.len() {
-        FormatLen::Is(n) => write_sized(point, extra, dst, format, n as usize),
-        FormatLen::Refused(refusal) => Wrote::Refused(refusal),
+        Ok(n) => write_sized(point, extra, dst, format, n as usize),
+        Err(refusal) => Err(refusal),
     }
 }
 
 // A point of a format whose record has n bytes.
-fn write_sized(point: Point, extra: &[u8], dst: &mut [u8], format: Format, n: usize) -> Wrote
+fn write_sized(
+    point: Point,
+    extra: &[u8],
+    dst: &mut [u8],
+    format: Format,
+    n: usize,
+) -> Result<usize, Refusal>
     requires { n ≡ record_bytes format }
     ensures { (result, dst.new) ≡ sized_of format point extra.now n dst.old }
 {
     if extra.len() != format.extra_bytes as usize {
-        return Wrote::Refused(Refusal::ExtraBytes(format.extra_bytes));
+        return Err(Refusal::ExtraBytes(format.extra_bytes));
     }
     if dst.len() < n {
-        return Wrote::Refused(Refusal::NoRoom(n as u64));
+        return Err(Refusal::NoRoom(n as u64));
     }
     if format.is_extended {
         let core = point_bytes::extended_core(point);
         put_at(dst, 0, &core);
         write_rest(point, extra, dst, format);
-        return Wrote::Bytes(n);
+        return Ok(n);
     }
     let flags = point.flags;
     match flags.to_two_bytes() {
-        TwoBytes::Bytes(a, b) => {
+        Ok((a, b)) => {
             let core = point_bytes::legacy_core(point, a, b);
             put_at(dst, 0, &core);
             write_rest(point, extra, dst, format);
-            Wrote::Bytes(n)
+            Ok(n)
         }
-        TwoBytes::Refused(refusal) => Wrote::Refused(refusal),
+        Err(refusal) => Err(refusal),
     }
 }
 
@@ -81,11 +90,10 @@ fn write_rest(point: Point, extra: &[u8], dst: &mut [u8], format: Format)
     }
 }
 
-// Some bytes at place at. The part that is lent is as long as they are, so that what writes them tests nothing.
+// Some bytes at place at.
 fn put_at(dst: &mut [u8], at: usize, bytes: &[u8])
     requires { at + length bytes.now ≤ length dst.old }
     ensures { dst.new ≡ sets dst.old at bytes.now }
 {
-    let end = at + bytes.len();
-    lent::put(&mut dst[at..end], bytes);
+    dst[at..at + bytes.len()].copy_from_slice(bytes);
 }

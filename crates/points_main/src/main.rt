@@ -6,11 +6,10 @@
 ghost use Rattle.std.specs.Prelude.{◌≡◌, false, IfOk};
 ghost use Rattle.points_main.specs.Walked.{Goes};
 
-use flags::Flags;
 use point::Point;
-use refusal::Row;
+use refusal::{Refused, Row};
 use std::io;
-use walker::{Walked, Walker};
+use walker::Walker;
 
 // As many bytes as are read.
 const BYTES: usize = 65536;
@@ -32,12 +31,12 @@ fn walk(rt: &HostRuntime, file: &[u8]) -> io::Result<()> {
 }
 
 // Prints what a walker answered, and says whether the walk goes on: after a refusal it does not.
-fn print_walked(rt: &HostRuntime, walked: Walked) -> io::Result<bool>
+fn print_walked(rt: &HostRuntime, walked: Result<Point, Refused>) -> io::Result<bool>
     ensures { IfOk result (λ goes. Goes walked goes) }
 {
     match walked {
-        Walked::Point(point) => print_point(rt, point),
-        Walked::Refused { refusal, record } => print_refused(rt, refusal.row(record)),
+        Ok(point) => print_point(rt, point),
+        Err(Refused { refusal, record }) => print_refused(rt, refusal.row(record)),
     }
 }
 

@@ -1,9 +1,10 @@
 -- "reading everything, changing that one class and writing afresh" (document 02, No. 13): every part is written from what its reader answers, as
 -- rewriting does it, but one point with another class.
+use Rattle.std.specs.Prelude.{Result, Ok, Err}
+use Rattle.point.specs.declared.Point.{Point}
+use Rattle.refusal.specs.declared.Refusal.{Refusal}
 use Rattle.std.specs.Prelude.{ℕ, zero, suc, ◌-◌, cond, List, [], ◌∷◌, ◌++◌, eqb, take, drop}
 use Rattle.format.specs.declared.Format.{Format}
-use Rattle.point.specs.declared.PointRead.{PointRead}
-use Rattle.point.specs.declared.PointRead.TheVariants.{Is, Refused}
 use Rattle.point.specs.Read.{read_of, extra_of}
 use Rattle.point.specs.Class.{reclassed}
 use Rattle.outline.specs.declared.Outline.{Outline}
@@ -16,9 +17,9 @@ use Rattle.rewrite.specs.Back.{point_by, point_back, part_back}
 use Rattle.rewrite.specs.Pair.{with_pair}
 
 -- the point that is read, with class c, and its extra bytes
-abbrev pub read_with : ℕ → PointRead → PointRead
-read_with c (Is p) = Is (reclassed c p)
-read_with c (Refused r) = Refused r
+abbrev pub read_with : ℕ → Result Point Refusal → Result Point Refusal
+read_with c (Ok p) = Ok (reclassed c p)
+read_with c (Err r) = Err r
 
 unfoldable pub point_with : Format → ℕ → List ℕ → List ℕ
 point_with f c s = point_by f (extra_of f s) (read_with c (read_of f s))

@@ -1,4 +1,5 @@
 -- What setting the class of one point leaves as it was, and that it is as if all were written afresh.
+use Rattle.std.specs.Prelude.{Ok}
 use Rattle.std.specs.Prelude.{ℕ, suc, ◌+◌, ◌*◌, ◌-◌, ◌≤◌, ◌<◌, ◌≡◌, refl, Bool, true, false, cond, ◌⊎◌, eqb, length, set, take, drop}
 use Rattle.std.proofs.Math.Path.{ap, sym, subst}
 use Rattle.std.proofs.Common.{◌∙◌, inl, inr, suc-mul, mul-le-mul_right, arith, eqb-true, length-set, length-drop, length-take-le}
@@ -9,24 +10,22 @@ use Rattle.le.specs.Le.{num, Bytes}
 use Rattle.le.specs.Laws.{num-take, bytes_take, bytes_drop}
 use Rattle.store.specs.Elsewhere.{Elsewhere, set_elsewhere, same-before, same_behind}
 use Rattle.format.specs.declared.Format.{Format}
-use Rattle.format.specs.declared.FormatLen.TheVariants as len
 use Rattle.format.specs.Fields.{len_of}
 use Rattle.format.specs.Laws.{len_is}
 use Rattle.point.specs.Class.{class_place, classed}
-use Rattle.header.specs.declared.HeaderRead.{HeaderRead}
+use Rattle.header.specs.declared.Header.{Header}
 use Rattle.header.specs.Layout.{VersionMinor, fields_of, size}
 use Rattle.header.specs.Header.{number}
-use Rattle.header.specs.Judged.{read_of}
+use Rattle.header.specs.Judged.{read_of, header_in}
 use Rattle.header.specs.Minor.{minor_read}
 use Rattle.outline.specs.declared.Outline.{Outline}
 use Rattle.outline.specs.Outline.{outline_of}
-use Rattle.rules.specs.declared.Checked.TheVariants.{Accepted}
 use Rattle.extents.specs.Extents.{points_end}
 use Rattle.file.specs.Rules.{checked_of}
 use Rattle.file.specs.Holds.{Holds, standard_in, holds-judged}
 use Rattle.file.specs.Points.{point_format, format_extended, format_len}
 use Rattle.file.specs.Theorems.{accepted-holds}
-use Rattle.file.specs.Kept.{points-judged, points_read, points-check}
+use Rattle.file.specs.Kept.{points-judged, points_read, points_header, points-check}
 use Rattle.cursor.specs.declared.Part.{Part}
 use Rattle.cursor.specs.declared.Kind.TheVariants.{Points}
 use Rattle.cursor.specs.Parts.{part, outline_in, parts_of, bytes_of, Each}
@@ -82,7 +81,7 @@ module _ (a i c : ℕ) (s : List ℕ) (d : Applies a i c s) where
   fewer = omega (arith, d.some, d.there)
 
   module _ (bytes : Bytes s) where
-    pub whole : len_of f ≡ len.Is each
+    pub whole : len_of f ≡ Ok each
     whole = format_len a s holds bytes
 
     pub inside : class_place (is_extended o) < each
@@ -101,11 +100,14 @@ module _ (a i c : ℕ) (s : List ℕ) (d : Applies a i c s) where
     pub same_read : read_of after ≡ read_of s
     same_read = points_read a s after holds among_points
 
-    pub same_check : checked_of a after ≡ Accepted d.found
+    pub same_header : header_in after ≡ header_in s
+    same_header = points_header a s after holds among_points
+
+    pub same_check : checked_of a after ≡ Ok d.found
     same_check = points-check a s after holds among_points d.accepted
 
     pub same_parts : parts_of (outline_in after) after ≡ parts_of o s
-    same_parts = ap (λ (r : HeaderRead). parts_of (outline_of r.header) after) same_read ∙ points-parts o s after (laid a s d.accepted) among_points
+    same_parts = ap (λ (x : Header). parts_of (outline_of x) after) same_header ∙ points-parts o s after (laid a s d.accepted) among_points
 
     -- every part but the points has its bytes
     beside_same : (p : Part) → (p.start + p.length ≤ points) ⊎ (points_end o ≤ p.start) → bytes_of after p ≡ bytes_of s p
@@ -177,7 +179,7 @@ module _ (a i c : ℕ) (s : List ℕ) (d : Applies a i c s) where
     pair_same t =
         let p = holds-judged s holds.header in
         let q = points-judged a s after holds (among_points bytes) ∙ p in
-        let minor : number VersionMinor after ≡ number VersionMinor s = sym (minor_read after q) ∙ ap (λ (r : HeaderRead). r.header.version.minor) (same_read bytes) ∙ minor_read s p in
+        let minor : number VersionMinor after ≡ number VersionMinor s = sym (minor_read after q) ∙ ap (λ (x : Header). x.version.minor) (same_header bytes) ∙ minor_read s p in
         go (eqb (number VersionMinor s) 4) refl ∙ ap (λ (n : ℕ). cond (eqb n 4) (pair_of after t) t) (sym minor)
       where
         go : (four : Bool) → eqb (number VersionMinor s) 4 ≡ four → cond four (pair_of s t) t ≡ cond four (pair_of after t) t
@@ -191,5 +193,5 @@ module _ (a i c : ℕ) (s : List ℕ) (d : Applies a i c s) where
     unfolding afresh_of
     afresh =
         let same : back_of o after (parts_of o s) ≡ back_of (outline_in after) after (parts_of (outline_in after) after) =
-        sym (λ j. back_of (outline_of (same_read bytes j).header) after (same_parts bytes j)) in
+        sym (λ j. back_of (outline_of (same_header bytes j)) after (same_parts bytes j)) in
         ap (with_pair s) (parts_are (parts_of o s) (beside o s (laid a s d.accepted)) ∙ same) ∙ pair_same (back_of (outline_in after) after (parts_of (outline_in after) after)) ∙ but_for_pair a after (same_check bytes) after-bytes

@@ -1,4 +1,7 @@
 -- The points written afresh with one class changed are their bytes with one byte changed.
+use Rattle.std.specs.Prelude.{Result, Ok}
+use Rattle.point.specs.declared.Point.{Point}
+use Rattle.refusal.specs.declared.Refusal.{Refusal}
 use Prim.Native.Nat.{ℕ, zero, suc, ◌+◌, ◌*◌, ◌-◌, ◌≤◌, ◌<◌}
 use Rattle.std.specs.Prelude.{◌≡◌, refl, Bool, true, cond}
 use Rattle.std.proofs.Math.Path.{ap, sym}
@@ -16,10 +19,8 @@ use Rattle.le.specs.Le.{num, Bytes}
 use Rattle.le.specs.Laws.{num-one, num-lt, num-take, bytes_take, bytes_drop}
 use Rattle.le.specs.Made.{set_made}
 use Rattle.format.specs.declared.Format.{Format}
-use Rattle.format.specs.declared.FormatLen.TheVariants as len
 use Rattle.format.specs.Fields.{len_of, record_bytes}
 use Rattle.format.specs.Laws.{len_is, record_sum}
-use Rattle.point.specs.declared.PointRead.{PointRead}
 use Rattle.point.specs.Read.{point_of, extra_of}
 use Rattle.point.specs.Answer.{answered, whole_read}
 use Rattle.point.specs.Class.{reclassed, class_place, classed, record_with, point_classed, extra-classed}
@@ -67,7 +68,7 @@ module _ (f : Format) (c : ℕ) (byte : c < 256) (fits : f.is_extended ≡ false
   bytes_with at s bytes = set_made s at (byte_at at s) (classed_byte f.is_extended c (num 1 at s) byte fits (num-lt 1 s at bytes)) bytes
 
   -- one record
-  pub point_with_lem : (s : List ℕ) → len_of f ≡ len.Is (length s) → Bytes s → point_with f c s ≡ set s place (byte_at place s)
+  pub point_with_lem : (s : List ℕ) → len_of f ≡ Ok (length s) → Bytes s → point_with f c s ≡ set s place (byte_at place s)
   unfolding point_with
   point_with_lem s whole bytes =
       let t = record_with f s c in
@@ -75,7 +76,7 @@ module _ (f : Format) (c : ℕ) (byte : c < 256) (fits : f.is_extended ≡ false
       let long : length t ≡ length s = length-set s place (byte_at place s) in
       let room : record_bytes f ≤ length s = omega arith in
       let read = whole_read f s whole in
-      ap (λ (r : PointRead). point_by f (extra_of f s) (read_with c r)) read
+      ap (λ (r : Result Point Refusal). point_by f (extra_of f s) (read_with c r)) read
       ∙ ap (record_of f (reclassed c (point_of f s))) (answered f s (point_of f s) read).extra
       ∙ (λ i. record_of f (sym (point_classed f s c room) i) (sym (extra-classed f s c) i))
       ∙ read_then_written f t (bytes_with place s bytes) (omega arith)
@@ -88,7 +89,7 @@ module _ (f : Format) (c : ℕ) (byte : c < 256) (fits : f.is_extended ≡ false
   none_with m (suc k) s = ap (λ (l : List ℕ). point_back f (take m s) ++ l) (none_with m k (drop m s)) ∙ sym (more_points f m s k)
 
   -- the record after n others
-  module _ (m : ℕ) (whole : len_of f ≡ len.Is m) where
+  module _ (m : ℕ) (whole : len_of f ≡ Ok m) where
     within : place < m
     within = omega (arith, place-within f, len_is f m whole)
 
@@ -100,7 +101,7 @@ module _ (f : Format) (c : ℕ) (byte : c < 256) (fits : f.is_extended ≡ false
       others : length (drop m s) ≡ k * m
       others = rw length-drop (omega (arith, all))
 
-      front : len_of f ≡ len.Is (length (take m s))
+      front : len_of f ≡ Ok (length (take m s))
       front = rw (length-take-le m s (omega (arith, all))) whole
 
     pub points_with_lem : (k n : ℕ) (s : List ℕ) → length s ≡ k * m → Bytes s → n < k → points_with f m (suc n) c k s ≡ set s (n * m + place) (byte_at (n * m + place) s)

@@ -4,11 +4,10 @@
 ghost use Rattle.std.specs.Prelude.{◌≡◌, true, false, ◌≤◌, length};
 ghost use Rattle.extents.specs.Extents.{points_end};
 ghost use Rattle.reclassify.specs.Reclassify.{change_at, asked_in, asked_of, reclassified_of};
+ghost use Rattle.refusal.specs.Refused.{at_record};
 
-use header::Header;
 use outline::Outline;
-use refusal::Refusal;
-use rules::Checked;
+use refusal::{Refusal, Refused};
 
 // The one byte that another class changes: where it stands in the file, and what it becomes; and the class that the point had.
 #[derive(Clone, Copy)]
@@ -18,54 +17,27 @@ pub struct Change {
     pub class: u8,
 }
 
-// What is to be changed, or why nothing is, with the record number of the file check's refusal.
-#[derive(Clone, Copy)]
-pub enum Asked {
-    Byte(Change),
-    Refused { refusal: Refusal, record: u64 },
-}
-
-// The class that the point had, or why it still has it, with the record number of the file check's refusal.
-#[derive(Clone, Copy)]
-pub enum Reclassified {
-    Was(u8),
-    Refused { refusal: Refusal, record: u64 },
-}
-
 // Which byte of the file gives this class to the point of this number, the first being 1. Refused as the file check does; then 27 with
 // the point count where there is no such point, and 17 with the class where it is above 31 and the format is 0 to 5.
-pub fn ask(file: &[u8], allowance: u64, point: u64, class: u8) -> Asked
+pub fn ask(file: &[u8], allowance: u64, point: u64, class: u8) -> Result<Change, Refused>
     ensures { result ≡ asked_of allowance point class file.now }
 {
-    match file::check(file, allowance) {
-        Checked::Accepted { records: _ } => {
-            let read = Header::read_from(file);
-            ask_point(file, Outline::of(read.header), point, class)
-        }
-        Checked::Refused {
-            refusal,
-            record,
-            records: _,
-        } => Asked::Refused { refusal, record },
-    }
+    let header = file::open(file, allowance)?;
+    ask_point(file, Outline::of(header), point, class)
 }
 
 // Gives this class to the point of this number, and leaves all else, the three flags beside an old class too. Refused as `ask` says, and
 // it leaves the file then.
-pub fn reclassify(file: &mut [u8], allowance: u64, point: u64, class: u8) -> Reclassified
+pub fn reclassify(file: &mut [u8], allowance: u64, point: u64, class: u8) -> Result<u8, Refused>
     ensures { (result, file.new) ≡ reclassified_of allowance point class file.old }
 {
-    match ask(file, allowance, point, class) {
-        Asked::Byte(change) => {
-            store::set_u8(file, change.at as usize, change.byte);
-            Reclassified::Was(change.class)
-        }
-        Asked::Refused { refusal, record } => Reclassified::Refused { refusal, record },
-    }
+    let change = ask(file, allowance, point, class)?;
+    store::set_u8(file, change.at as usize, change.byte);
+    Ok(change.class)
 }
 
 // The change in an accepted file with this outline. The stride is the header's record length.
-fn ask_point(file: &[u8], o: Outline, point: u64, class: u8) -> Asked
+fn ask_point(file: &[u8], o: Outline, point: u64, class: u8) -> Result<Change, Refused>
     requires { points_end o ≤ length file.now }
     ensures { result ≡ asked_in o point class file.now }
 {
@@ -88,11 +60,11 @@ fn ask_point(file: &[u8], o: Outline, point: u64, class: u8) -> Asked
 }
 
 // The whole byte is the class.
-fn new_class(file: &[u8], at: u64, class: u8) -> Asked
-    ensures { result ≡ Asked.Byte (change_at true at class file.now) }
+fn new_class(file: &[u8], at: u64, class: u8) -> Result<Change, Refused>
+    ensures { result ≡ Ok (change_at true at class file.now) }
 {
     let byte = le::u8_at(file, at as usize);
-    Asked::Byte(Change {
+    Ok(Change {
         at,
         byte: class,
         class: byte,
@@ -100,12 +72,12 @@ fn new_class(file: &[u8], at: u64, class: u8) -> Asked
 }
 
 // The class is the byte's low five bits, and synthetic, key point and withheld, above them, stay.
-fn old_class(file: &[u8], at: u64, class: u8) -> Asked
+fn old_class(file: &[u8], at: u64, class: u8) -> Result<Change, Refused>
     requires { class ≤ 31 }
-    ensures { result ≡ Asked.Byte (change_at false at class file.now) }
+    ensures { result ≡ Ok (change_at false at class file.now) }
 {
     let byte = le::u8_at(file, at as usize);
-    Asked::Byte(Change {
+    Ok(Change {
         at,
         byte: byte / 32 * 32 + class,
         class: byte % 32,
@@ -113,8 +85,8 @@ fn old_class(file: &[u8], at: u64, class: u8) -> Asked
 }
 
 // A refusal with no record.
-fn refused(refusal: Refusal) -> Asked
-    ensures { result ≡ Asked.Refused refusal 0 }
+fn refused(refusal: Refusal) -> Result<Change, Refused>
+    ensures { result ≡ Err (at_record refusal 0) }
 {
-    Asked::Refused { refusal, record: 0 }
+    Err(Refused { refusal, record: 0 })
 }

@@ -1,4 +1,5 @@
 -- definitions
+pub mod Refused
 pub mod Table
 -- laws
 pub mod Laws

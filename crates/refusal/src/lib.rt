@@ -89,6 +89,24 @@ pub enum Refusal {
     TotalTooLarge,
 }
 
+// A refusal and the number of the record that it speaks of, 0 where it names none.
+#[derive(Clone, Copy)]
+pub struct Refused {
+    pub refusal: Refusal,
+    pub record: u64,
+}
+
+// By itself a refusal names no record.
+impl From<Refusal> for Refused {
+    ghost use Rattle.refusal.specs.Refused.{at_record};
+
+    ghost from_gives = { λ refusal refused. refused ≡ at_record refusal 0 };
+
+    fn from(refusal: Refusal) -> Refused {
+        Refused { refusal, record: 0 }
+    }
+}
+
 // A refusal as document 01 returns it: number, value and record number.
 #[derive(Clone, Copy)]
 pub struct Row {
@@ -230,11 +248,5 @@ impl Refusal {
 pub fn wanted(count: u64, each: u64) -> u64
     ensures { result ≡ wanted_of (count * each) }
 {
-    if each == 0 {
-        return 0;
-    }
-    if 18446744073709551615 / each < count {
-        return 0;
-    }
-    count * each
+    count.checked_mul(each).unwrap_or(0)
 }

@@ -7,7 +7,7 @@
 // each kind.
 #![tactic(auto)]
 
-use le::{float, signed};
+use le::float::F32;
 use std::io;
 
 // The bytes of a call, and of as many calls as are read at once.
@@ -42,13 +42,12 @@ fn replay_some(rt: &HostRuntime) -> io::Result<bool> {
 
 // Replays the calls of a slice, one after the other.
 fn replay_all(rt: &HostRuntime, calls: &[u8]) -> io::Result<()> {
-    for i in 0..calls.len() / CALL {
-        let at = i * CALL;
+    for call in calls.chunks_exact(CALL) {
         print(
             rt,
-            le::u32_at(calls, at),
-            le::u32_at(calls, at + 4),
-            le::u32_at(calls, at + 8),
+            le::u32_at(call, 0),
+            le::u32_at(call, 4),
+            le::u32_at(call, 8),
         )?;
     }
     Ok(())
@@ -127,8 +126,8 @@ fn flags_answer(op: u32, x: u32, y: u32) -> Answer {
 // Signed answers and floats go by their bits.
 fn angle_answer(op: u32, x: u32, y: u32) -> Answer {
     match op {
-        30 => worked(signed::bits8(capi::las_angle_to_rank(x)) as u64),
-        31 => worked(signed::bits16(capi::las_angle_to_scaled(x)) as u64),
+        30 => worked(capi::las_angle_to_rank(x).cast_unsigned() as u64),
+        31 => worked(capi::las_angle_to_scaled(x).cast_unsigned() as u64),
         32 => worked(degree_bits(capi::las_angle_to_degrees(x)) as u64),
         33 => worked(capi::las_angle_from_degrees(degrees(x)) as u64),
         34 => said(capi::las_angle_eq(x, y)),
@@ -138,14 +137,14 @@ fn angle_answer(op: u32, x: u32, y: u32) -> Answer {
 
 // The f32 with these bits; any NaN's bits give a NaN.
 fn degrees(bits: u32) -> f32 {
-    let x = float::f32_of(bits);
+    let x = F32::from_bits(bits);
     x.value
 }
 
 // The bits of an f32 that is no NaN.
 fn degree_bits(value: f32) -> u32 {
-    let x = float::F32 { value, nan: 0 };
-    float::f32_bits(x)
+    let x = F32 { value, nan: 0 };
+    x.to_bits()
 }
 
 fn worked(value: u64) -> Answer {

@@ -47,9 +47,8 @@ fn replay_some(rt: &HostRuntime) -> io::Result<bool> {
 
 // Replays the slots of a slice, one after the other.
 fn replay_all(rt: &HostRuntime, slots: &[u8]) -> io::Result<()> {
-    for i in 0..slots.len() / SLOT {
-        let at = i * SLOT;
-        replay(rt, &slots[at..at + SLOT])?;
+    for slot in slots.chunks_exact(SLOT) {
+        replay(rt, slot)?;
     }
     Ok(())
 }
@@ -254,16 +253,16 @@ fn print_number(rt: &HostRuntime, n: u64) -> io::Result<()> {
 }
 
 fn print_numbers(rt: &HostRuntime, numbers: &[u64]) -> io::Result<()> {
-    for i in 0..numbers.len() {
-        print_number(rt, numbers[i])?;
+    for number in numbers {
+        print_number(rt, *number)?;
     }
     Ok(())
 }
 
 fn print_bytes(rt: &HostRuntime, bytes: &[u8]) -> io::Result<()> {
     print!(rt; " x")?;
-    for i in 0..bytes.len() {
-        print_byte(rt, bytes[i])?;
+    for byte in bytes {
+        print_byte(rt, *byte)?;
     }
     Ok(())
 }

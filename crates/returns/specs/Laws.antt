@@ -1,18 +1,19 @@
 -- Laws of the return numbers: how large they are, how a record adds to them, and that the points of a survey end in the file.
+use Rattle.std.specs.Prelude.{Result, Ok, Err}
+use Rattle.rules.specs.declared.NotAccepted.{NotAccepted}
 use Prim.Native.Nat.{ℕ, zero, suc, ◌+◌, ◌*◌, ◌-◌, ◌≤◌, ◌<◌}
-use Rattle.std.specs.Prelude.{◌≡◌, Bool, true, false, cond, List, eqb, length, take, drop, get_or}
+use Rattle.std.specs.Prelude.{◌≡◌, Bool, true, false, cond, List, ◌++◌, eqb, length, take, drop, get_or}
 use Rattle.std.proofs.Math.Path.{refl, ap}
-use Rattle.std.proofs.Common.{◌∙◌, add-suc, suc-add, add-zero, zero-add}
+use Rattle.std.proofs.Common.{drop-drop, ◌∙◌, add-suc, suc-add, add-zero, zero-add, take-take}
 use native.Mathlib.Omega.{arith}
-use Rattle.std.proofs.Math.Seq.{drop-drop}
+use Rattle.std.proofs.Math.Nat.{suc-mul}
+use Rattle.std.proofs.Math.Seq.{take-append_seam, drop-append_seam}
+use Rattle.le.specs.Laws.{drop-take}
 use Rattle.format.specs.Fields.{record_bytes}
 use Rattle.format.specs.Laws.{when-le}
-use Rattle.rules.specs.declared.Checked.{Checked}
-use Rattle.rules.specs.declared.Checked.TheVariants as checked
 use Rattle.file.specs.Rules.{checked_of}
 use Rattle.file.specs.Points.{format_long}
 use Rattle.file.specs.Theorems.{accepted-holds}
-use Rattle.walker.specs.declared.Start.TheVariants as start
 use Rattle.walker.specs.Begin.{begin_of}
 use Rattle.walker.specs.Accepted.{begins, begins_refused}
 use Rattle.returns.specs.declared.Survey.{Survey}
@@ -66,16 +67,53 @@ module _ (e : Bool) (m : ℕ) where
         let cut : at + m - at ≡ m = omega arith in
         rw (less, cut, drop-drop m at s)
 
+  -- the same of a record and what stands after it
+  module _ (one rest : List ℕ) (long : length one ≡ m) where
+    front : take m (one ++ rest) ≡ one
+    front = rw (← long) (take-append_seam one rest)
+
+    behind : drop m (one ++ rest) ≡ rest
+    behind = rw (← long) (drop-append_seam one rest)
+
+    pub odd_split : (left : ℕ) → 0 < left → odd_of e m left (one ++ rest) ≡ cond (odd_in e one) 1 0 + odd_of e m (left - 1) rest
+    unfolding odd_of
+    odd_split zero h = absurd (omega arith)
+    odd_split (suc k) h =
+        let less : suc k - 1 ≡ k = omega arith in
+        rw (less, front, behind)
+
+    pub have_split : (r left : ℕ) → 0 < left → have_of e m r left (one ++ rest) ≡ cond (eqb (mark_of e one).number r) 1 0 + have_of e m r (left - 1) rest
+    unfolding have_of
+    have_split r zero h = absurd (omega arith)
+    have_split r (suc k) h =
+        let less : suc k - 1 ≡ k = omega arith in
+        rw (less, front, behind)
+
+  -- only the bytes of the records count
+  pub odd-first : (n : ℕ) (s : List ℕ) → odd_of e m n (take (n * m) s) ≡ odd_of e m n s
+  unfolding odd_of
+  odd-first zero s = refl
+  odd-first (suc n) s =
+      let less : suc n * m - m ≡ n * m = rw suc-mul (omega arith) in
+      rw (take-take m (suc n * m) s (rw suc-mul (omega arith)), drop-take m (suc n * m) s, less, odd-first n (drop m s))
+
+  pub have-first : (r n : ℕ) (s : List ℕ) → have_of e m r n (take (n * m) s) ≡ have_of e m r n s
+  unfolding have_of
+  have-first r zero s = refl
+  have-first r (suc n) s =
+      let less : suc n * m - m ≡ n * m = rw suc-mul (omega arith) in
+      rw (take-take m (suc n * m) s (rw suc-mul (omega arith)), drop-take m (suc n * m) s, less, have-first r n (drop m s))
+
 -- the points of an accepted file end in it
-pub begun_end : (allowance : ℕ) (s : List ℕ) → (let p = begin_of allowance s in p.start ≡ start.Accepted → p.at + p.count * record_bytes p.format ≤ length s)
+pub begun_end : (allowance : ℕ) (s : List ℕ) → (let p = begin_of allowance s in p.start ≡ (Ok tt) → p.at + p.count * record_bytes p.format ≤ length s)
 begun_end allowance s accepted = go (checked_of allowance s) refl
   where
-    go : (x : Checked) → checked_of allowance s ≡ x → (let p = begin_of allowance s in p.at + p.count * record_bytes p.format ≤ length s)
-    go (checked.Accepted n) e =
+    go : (x : Result ℕ NotAccepted) → checked_of allowance s ≡ x → (let p = begin_of allowance s in p.at + p.count * record_bytes p.format ≤ length s)
+    go (Ok n) e =
         let (f, at, count, is) = begins allowance s e in
         let holds = accepted-holds allowance s e in
         rw (f, at, count, format_long allowance s holds) holds.parts.points-within
-    go (checked.Refused r m n) e = let no = begins_refused allowance s e in let z : ◌≡◌ {A = ℕ} 0 1 = cc in absurd (omega arith)
+    go (Err err) e = let no = begins_refused allowance s e in let z : ◌≡◌ {A = ℕ} 0 1 = cc in absurd (omega arith)
 
 -- what a survey says of its points
 module _ (e : Bool) (at m n : ℕ) (s : List ℕ) where

@@ -1,10 +1,10 @@
 -- Return numbers: document 02, No. 12, "counts by return unlike the records; a return number of zero or above the number of returns".
+use Rattle.std.specs.Prelude.{Result, Ok, Err}
+use Rattle.refusal.specs.declared.Refused.{Refused}
 use Rattle.std.specs.Prelude.{ℕ, zero, suc, ◌+◌, Bool, cond, ◌||◌, List, [], ◌∷◌, eqb, ltb, take, drop}
 use Rattle.le.specs.Le.{num}
 use Rattle.format.specs.Fields.{record_bytes}
 use Rattle.flags.specs.Readings.{low, field}
-use Rattle.walker.specs.declared.Start.{Start}
-use Rattle.walker.specs.declared.Start.TheVariants as start
 use Rattle.walker.specs.declared.Place.{Place}
 use Rattle.walker.specs.Begin.{begin_of}
 use Rattle.returns.specs.declared.Mark.{Mark}
@@ -52,9 +52,9 @@ unfoldable pub survey_at : Bool → ℕ → ℕ → ℕ → List ℕ → Survey
 survey_at extended at m n s = record { extended = extended; at = at; each = m; count = n; returns = counted_of extended m n (drop at s) }
 
 -- the points where a walker begins; of a file that is refused, none
-abbrev pub survey_by : Place → List ℕ → Start → Survey
-survey_by p s start.Accepted = survey_at p.format.is_extended p.at (record_bytes p.format) p.count s
-survey_by p s (start.Refused r k) = survey_at p.format.is_extended 0 (record_bytes p.format) 0 s
+abbrev pub survey_by : Place → List ℕ → Result Unit Refused → Survey
+survey_by p s (Ok tt) = survey_at p.format.is_extended p.at (record_bytes p.format) p.count s
+survey_by p s (Err err) = survey_at p.format.is_extended 0 (record_bytes p.format) 0 s
 
 unfoldable pub survey_of : ℕ → List ℕ → Survey
 survey_of allowance s = survey_by (begin_of allowance s) s (begin_of allowance s).start

@@ -1,13 +1,12 @@
 // The return numbers of a file's points: how many records have each, and how many have one that cannot be. Added by document 02, No. 12.
 #![tactic(auto)]
 
-ghost use Rattle.std.specs.Prelude.{◌≡◌, cond, ◌+◌, ◌*◌, ◌≤◌, length};
+ghost use Rattle.std.specs.Prelude.{◌≡◌, ◌+◌, ◌*◌, ◌≤◌, ◌<◌, length};
 ghost use Rattle.format.specs.Fields.{record_bytes};
 ghost use Rattle.returns.specs.Returns.{mark_of, is_odd, odd_in, counted_of, survey_at, survey_of};
 
 use format::Format;
 use layout::Layout;
-use walker::Start;
 
 // A point's return number, and its number of returns.
 #[derive(Clone, Copy)]
@@ -39,13 +38,9 @@ pub fn survey_of(file: &[u8], allowance: u64) -> Survey
     ensures { result ≡ survey_of allowance file.now }
 {
     let begun = walker::begin(file, allowance);
-    let start = begun.start;
-    match start {
-        Start::Accepted => survey_at(file, begun.format, begun.at, begun.count),
-        Start::Refused {
-            refusal: _,
-            record: _,
-        } => survey_at(file, begun.format, 0, 0),
+    match begun.start {
+        Ok(()) => survey_at(file, begun.format, begun.at, begun.count),
+        Err(_) => survey_at(file, begun.format, 0, 0),
     }
 }
 
@@ -74,20 +69,16 @@ pub fn is_odd_in(record: &[u8], extended: bool) -> bool
 
 // n records of m bytes, all of them there.
 fn count_all(records: &[u8], extended: bool, m: usize, n: usize) -> Counted
-    requires { n * m ≤ length records.now }
+    requires { (0 < m) × (n * m ≤ length records.now) }
     ensures { result ≡ counted_of extended m n records.now }
 {
     let mut numbers = [0; 16];
     let mut odd = 0;
-    let mut at = 0;
-    let mut left = n;
-    while 0 < left {
-        let mark = mark_in(&records[at..at + m], extended);
+    for record in records[..n * m].chunks_exact(m) {
+        let mark = mark_in(record, extended);
         let i = mark.number as usize;
         numbers[i] += 1;
-        odd += one_if(is_odd(mark));
-        at += m;
-        left -= 1;
+        odd += is_odd(mark) as u64;
     }
     Counted { numbers, odd }
 }
@@ -113,15 +104,5 @@ fn mark_in(record: &[u8], extended: bool) -> Mark
 fn is_odd(mark: Mark) -> bool
     ensures { result ≡ is_odd mark }
 {
-    if mark.number == 0 {
-        return true;
-    }
-    mark.of < mark.number
-}
-
-// One for a yes.
-fn one_if(yes: bool) -> u64
-    ensures { result ≡ cond yes 1 0 }
-{
-    if yes { 1 } else { 0 }
+    mark.number == 0 || mark.of < mark.number
 }

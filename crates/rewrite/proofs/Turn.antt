@@ -1,8 +1,8 @@
 -- A turn of a loop that lays one piece after the other into the rest of the destination.
+use Rattle.std.specs.Prelude.{Ok}
 use Prim.Native.Nat.{ℕ, suc, ◌+◌, ◌-◌, ◌*◌, ◌≤◌, ◌<◌}
-use mathlib.Core.Path.{◌≡◌, refl, ap, sym, ◌∙◌}
-use mathlib.Core.Bool.{Bool, true, false, cond, not}
-use mathlib.Core.List.{List, [], ◌∷◌, ◌++◌}
+use mathlib.Core.Path.{◌≡◌, ap, sym, ◌∙◌}
+use mathlib.Core.List.{List, ◌∷◌, ◌++◌}
 use native.Mathlib.Omega.{arith}
 use lib.ListN.{length, take, drop, length-drop}
 use lib.Seq.{sets, drop-drop, length-take-le}
@@ -10,15 +10,10 @@ use Rattle.le.specs.Le.{Bytes}
 use Rattle.le.specs.Laws.{bytes_take, bytes_drop}
 use Rattle.lent.specs.Laws.{laid_turn, less_one}
 use Rattle.format.specs.declared.Format.{Format}
-use Rattle.format.specs.declared.FormatLen.TheVariants as len
 use Rattle.format.specs.Fields.{len_of}
 use Rattle.outline.specs.declared.Outline.{Outline}
 use Rattle.cursor.specs.declared.Part.{Part}
-use Rattle.cursor.specs.declared.Cursor.{Cursor}
-use Rattle.cursor.specs.declared.Step.{Step}
 use Rattle.cursor.specs.Parts.{between, bytes_of}
-use Rattle.cursor.specs.Cursor.{step_of, left_of, told_by}
-use Rattle.cursor.specs.Laws.{left_step}
 use Rattle.rewrite.specs.Back.{point_back, points_back, part_back}
 use Rattle.rewrite.specs.Rewritten.{back_of}
 use Rattle.rewrite.specs.Asked.{PartIs, IsWhole}
@@ -26,7 +21,7 @@ use Rattle.rewrite.specs.Whole.{length_part, length_back}
 use Rattle.rewrite.specs.Laws.{point_same}
 
 -- a record of the points, as it is cut and laid, and those that are left after it
-pub points_turn : (f : Format) (m : ℕ) → len_of f ≡ len.Is m → (s : List ℕ) → Bytes s → (at left : ℕ) → 0 < left → at + left * m ≡ length s → (d ys : List ℕ) {w : List ℕ} → length s ≤ length d → ys ≡ point_back f (between at (at + m) s) ++ drop (length (between at (at + m) s)) (between at (length d) d) → sets d at (points_back f m left (drop at s)) ≡ w
+pub points_turn : (f : Format) (m : ℕ) → len_of f ≡ Ok m → (s : List ℕ) → Bytes s → (at left : ℕ) → 0 < left → at + left * m ≡ length s → (d ys : List ℕ) {w : List ℕ} → length s ≤ length d → ys ≡ point_back f (between at (at + m) s) ++ drop (length (between at (at + m) s)) (between at (length d) d) → sets d at (points_back f m left (drop at s)) ≡ w
     → (length (take at d ++ (ys ++ drop (length d - at) (drop at d))) ≡ length d) × (sets (take at d ++ (ys ++ drop (length d - at) (drop at d))) (at + m) (points_back f m (left - 1) (drop (at + m) s)) ≡ w)
 unfolding points_back
 points_turn f m long s bytes at left more ends d ys room laid all =
@@ -62,18 +57,3 @@ module _ (o : Outline) (s : List ℕ) (bytes : Bytes s) (p : Part) (ends : p.sta
   part_turn at start ps d ys room laid all =
       rw (← start)
       (laid_turn d (part_back o p.kind (bytes_of s p)) (back_of o s ps) ys p.start p.length (length_back o s bytes p ends whole) (omega arith) (rw (cut-length, cut_is) at laid) (rw (← start) at all))
-
-not-not : (b : Bool) → not (not b) ≡ b
-not-not true = refl
-not-not false = refl
-
--- what a step tells of the parts that are left
-module _ (s : List ℕ) (c : Cursor) (r : Step) (e : r ≡ step_of s c) where
-  told : left_of s c ≡ cond r.has (r.part ∷ left_of s r.next) []
-  told = left_step s c ∙ ap (told_by (left_of s)) (sym e)
-
-  pub first-left : not r.has ≡ false → left_of s c ≡ r.part ∷ left_of s r.next
-  first-left has = told ∙ ap (λ (b : Bool). cond b (r.part ∷ left_of s r.next) []) (sym (not-not r.has) ∙ ap not has)
-
-  pub none_left : not r.has ≡ true → left_of s c ≡ []
-  none_left has = told ∙ ap (λ (b : Bool). cond b (r.part ∷ left_of s r.next) []) (sym (not-not r.has) ∙ ap not has)

@@ -1,11 +1,10 @@
 -- What the private steps ask of the bytes that they are given: each is a whole part of its kind.
+use Rattle.std.specs.Prelude.{Ok}
+use Rattle.header.specs.Whole.{whole_of}
 use Rattle.std.specs.Prelude.{ℕ, ◌*◌, ◌≡◌, Bool, true, false, List, length}
 use Rattle.format.specs.declared.Format.{Format}
-use Rattle.format.specs.declared.FormatLen.TheVariants.{Is}
 use Rattle.format.specs.Fields.{len_of}
-use Rattle.vlr.specs.declared.Extent.TheVariants.{Bytes}
-use Rattle.vlr.specs.Vlr.{read_of}
-use Rattle.header.specs.declared.HeaderAnswer.TheVariants.{Whole}
+use Rattle.vlr.specs.Vlr.{extent_of}
 use Rattle.header.specs.Judged.{judged}
 use Rattle.outline.specs.declared.Outline.{Outline}
 use Rattle.file.specs.Points.{point_format}
@@ -16,17 +15,17 @@ use Rattle.cursor.specs.Parts.{Covers, Each, bytes_of}
 
 -- a header with its padding; a record with its data, a VLR or one with a long head
 abbrev pub HeaderPart : List ℕ → Type 0
-HeaderPart s = (n : ℕ) × (judged s ≡ Whole n (length s))
+HeaderPart s = (n : ℕ) × (judged s ≡ Ok (whole_of n (length s)))
 
 abbrev pub VlrPart : Bool → List ℕ → Type 0
-VlrPart extended s = (read_of extended s).answer ≡ Bytes (length s)
+VlrPart extended s = extent_of extended s ≡ Ok (length s)
 
 -- a point record, and k of them of m bytes
 abbrev pub PointPart : Format → List ℕ → Type 0
-PointPart f s = len_of f ≡ Is (length s)
+PointPart f s = len_of f ≡ Ok (length s)
 
 abbrev pub PointsPart : Format → ℕ → ℕ → List ℕ → Type 0
-PointsPart f m k s = (len_of f ≡ Is m) × (length s ≡ k * m)
+PointsPart f m k s = (len_of f ≡ Ok m) × (length s ≡ k * m)
 
 -- a part of its kind; points are in the format of the file's
 unfoldable pub PartIs : Outline → Kind → List ℕ → Type 0

@@ -1,11 +1,13 @@
 -- What stands for each part in the rewritten file: "header, VLRs, EVLRs and points are each written from what their reader
 -- answers" (document 01). Each definition is the writer's own, of the reader's own.
+use Rattle.std.specs.Prelude.{Result, Ok, Err}
+use Rattle.point.specs.declared.Point.{Point}
+use Rattle.refusal.specs.declared.Refusal.{Refusal}
 use Rattle.std.specs.Prelude.{ℕ, zero, suc, Bool, true, false, List, [], ◌++◌, take, drop}
 use Rattle.format.specs.declared.Format.{Format}
-use Rattle.point.specs.declared.PointRead.{PointRead}
-use Rattle.point.specs.declared.PointRead.TheVariants.{Is, Refused}
 use Rattle.point.specs.Read as point
 use Rattle.point_write.specs.Write.{record_of}
+use Rattle.vlr.specs.declared.Vlr as records
 use Rattle.vlr.specs.Vlr as vlr
 use Rattle.vlr.specs.Vlr.{head_bytes, data_of}
 use Rattle.header.specs.Judged as header
@@ -18,16 +20,20 @@ use Rattle.cursor.specs.declared.Kind.TheVariants.{Header, Vlr, Gap, Points, Evl
 
 -- the header that is read, and its padding
 unfoldable pub header_back : List ℕ → List ℕ
-header_back s = block (header.read_of s).header ++ padding_of s
+header_back s = block (header.header_in s) ++ padding_of s
 
 -- the head that is read of a VLR, or of an EVLR or the waveform packets, and its data
+abbrev pub vlr_by : List ℕ → Result records.Vlr Refusal → List ℕ
+vlr_by e (Ok v) = head_bytes v ++ e
+vlr_by e (Err r) = head_bytes vlr.no_vlr ++ e
+
 unfoldable pub vlr_back : Bool → List ℕ → List ℕ
-vlr_back extended s = head_bytes (vlr.read_of extended s).vlr ++ data_of extended s
+vlr_back extended s = vlr_by (data_of extended s) (vlr.read_of extended s)
 
 -- the point that is read, and its extra bytes
-abbrev pub point_by : Format → List ℕ → PointRead → List ℕ
-point_by f e (Is p) = record_of f p e
-point_by f e (Refused r) = []
+abbrev pub point_by : Format → List ℕ → Result Point Refusal → List ℕ
+point_by f e (Ok p) = record_of f p e
+point_by f e (Err r) = []
 
 unfoldable pub point_back : Format → List ℕ → List ℕ
 point_back f s = point_by f (point.extra_of f s) (point.read_of f s)

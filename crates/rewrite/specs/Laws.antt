@@ -1,4 +1,5 @@
 -- Of bytes, what stands for a part is the part itself, but for the header's EVLR pair.
+use Rattle.std.specs.Prelude.{Ok}
 use Rattle.std.specs.Prelude.{ℕ, zero, suc, ◌+◌, ◌*◌, ◌≤◌, ◌≡◌, Bool, ◌⊎◌, replicate}
 use Rattle.std.proofs.Math.Path.{refl, ap}
 use Rattle.std.proofs.Common.{◌∙◌, suc-mul, zero-mul, arith, length-drop, take-add, length-take-le}
@@ -8,7 +9,6 @@ use Rattle.std.proofs.Math.Seq.{take_all, take-length}
 use Rattle.le.specs.Le.{Bytes}
 use Rattle.le.specs.Laws.{bytes_take, bytes_drop}
 use Rattle.format.specs.declared.Format.{Format}
-use Rattle.format.specs.declared.FormatLen.TheVariants as len
 use Rattle.format.specs.Fields.{len_of, record_bytes}
 use Rattle.format.specs.Laws.{len_is}
 use Rattle.point.specs.Read.{point_of, extra_of}
@@ -63,7 +63,7 @@ module _ (f : Format) (s : List ℕ) (whole : PointPart f s) where
       ∙ read_then_written f s bytes a.room
       ∙ take_all (record_bytes f) s (omega arith)
 
-pub points-same : (f : Format) (m k : ℕ) (s : List ℕ) → len_of f ≡ len.Is m → k * m ≤ length s → Bytes s → points_back f m k s ≡ take (k * m) s
+pub points-same : (f : Format) (m k : ℕ) (s : List ℕ) → len_of f ≡ Ok m → k * m ≤ length s → Bytes s → points_back f m k s ≡ take (k * m) s
 unfolding points_back
 points-same f m zero s long h bytes = rw zero-mul
 points-same f m (suc k) s long h bytes =
@@ -84,7 +84,7 @@ points-part-same o s whole bytes = part_same (point_format o) o.point_data_recor
 pub vlr_same : (extended : Bool) (s : List ℕ) → VlrPart extended s → Bytes s → vlr_back extended s ≡ s
 unfolding vlr_back
 vlr_same extended s whole bytes =
-    let w = vlr.read_accepted extended s whole in
+    let w = vlr.accepted extended s whole in
     let r = vlr.read_whole extended s (length s) w in
     rw (r.0, r.1) (record_back extended s (length s) bytes w ∙ take-length s)
 

@@ -1,4 +1,5 @@
 -- The parts of an accepted file cover it and are whole, and only the first is a header.
+use Rattle.std.specs.Prelude.{Ok}
 use Rattle.std.specs.Prelude.{ℕ, ◌-◌, ◌≤◌, ◌≡◌, refl, Bool, true, false, List, length, take, drop}
 use Rattle.std.proofs.Common.{ap, sym, subst, ◌∙◌, arith, take-take}
 use Rattle.std.proofs.Math.ListN.{length-drop}
@@ -7,11 +8,10 @@ use Rattle.le.specs.Le.{Bytes}
 use Rattle.vlr.specs.Vlr.{record_size}
 use Rattle.header.specs.Layout.{HeaderSize}
 use Rattle.header.specs.Header.{number}
-use Rattle.header.specs.Judged.{read_of, padded_to}
+use Rattle.header.specs.Judged.{header_in, padded_to}
 use Rattle.header.specs.Answers.{size_read, padded_field}
 use Rattle.header.specs.Laws.{within, agreed}
 use Rattle.outline.specs.Outline.{header_size_is}
-use Rattle.rules.specs.declared.Checked.TheVariants as checked
 use Rattle.extents.specs.Extents.{points_end}
 use Rattle.file.specs.Rules.{checked_of}
 use Rattle.file.specs.Holds.{standard_in, Holds, holds-judged}
@@ -32,7 +32,7 @@ module _ (allowance : ℕ) (s : List ℕ) (h : Holds allowance s) where
   -- the header with its padding ends where the header-size field says
   ends_at : padded_to (standard_in s) (number HeaderSize s) ≡ (outline_in s).header_size
   ends_at =
-      let field : (outline_in s).header_size ≡ number HeaderSize s = header_size_is (read_of s).header ∙ size_read s (holds-judged s h.header) in
+      let field : (outline_in s).header_size ≡ number HeaderSize s = header_size_is (header_in s) ∙ size_read s (holds-judged s h.header) in
       padded_field (standard_in s) (number HeaderSize s) (omega (arith, h.parts.header-size)) ∙ sym field
 
   pub header_whole : HeaderPart (take (outline_in s).header_size s)
@@ -51,7 +51,7 @@ record_cut s x at to here =
     subst (VlrPart x) (take-take m (to - at) (drop at s) short) (record_whole x (between at to s) here)
 
 -- The parts of an accepted file.
-module _ (allowance : ℕ) (s : List ℕ) {n : ℕ} (p : checked_of allowance s ≡ checked.Accepted n) where
+module _ (allowance : ℕ) (s : List ℕ) {n : ℕ} (p : checked_of allowance s ≡ Ok n) where
   pub file_tiles : Bytes s → Tiles (outline_in s) s 0 (parts_of (outline_in s) s)
   unfolding PartIs
   file_tiles bytes =

@@ -1,4 +1,7 @@
 -- What rewriting comes to: document 01, "rewriting", and the mission's "Written back, it has the same bytes".
+use Rattle.std.specs.Prelude.{Ok, Err}
+use Rattle.rules.specs.NotAccepted.{not_accepted}
+use Rattle.refusal.specs.Refused.{at_record}
 use Rattle.std.specs.Prelude.{ℕ, ◌+◌, ◌≤◌, ◌<◌, ◌≡◌, refl, ◌⊎◌, List, [], ◌∷◌, ◌++◌, length, take, drop, replicate}
 use Rattle.std.proofs.Common.{ap, sym, subst, ◌∙◌, append_assoc, arith, length-append, take_at, drop_at}
 use borrow.Author.Tests.{le-leb, lt-leb}
@@ -9,14 +12,11 @@ use Rattle.header.specs.Layout.{VersionMinor, StartOfFirstEvlr, NumberOfEvlrs}
 use Rattle.header.specs.Header.{number}
 use Rattle.header_write.specs.Back.{Paired}
 use Rattle.outline.specs.declared.Outline.{Outline}
-use Rattle.rules.specs.declared.Checked.TheVariants.{Accepted}
-use Rattle.rules.specs.declared.Checked.TheVariants as checked
 use Rattle.file.specs.Rules.{checked_of}
 use Rattle.file.specs.Theorems.{accepted-holds}
 use Rattle.cursor.specs.declared.Part.{Part}
 use Rattle.cursor.specs.Parts.{outline_in, body_of, parts_of, bytes_of}
 use Rattle.cursor.specs.Each.{header_first}
-use Rattle.rewrite.specs.declared.Rewrote.TheVariants as rewrote
 use Rattle.rewrite.specs.Back.{header_back, part_back}
 use Rattle.rewrite.specs.Pair.{paired_same, zero_cleared}
 use Rattle.rewrite.specs.Rewritten.{back_of, rewritten_of}
@@ -26,11 +26,11 @@ use Rattle.rewrite.specs.Sound.{header_whole, file_tiles, no_header_after}
 
 -- "22, after the file check": what the check refuses is refused so, and then a destination shorter than the file; both leave it.
 module _ (allowance : ℕ) (s d : List ℕ) where
-  pub refused : {r : Refusal} {k n : ℕ} → checked_of allowance s ≡ checked.Refused r k n → rewritten_of allowance s d ≡ (rewrote.Refused r k, d)
+  pub refused : {r : Refusal} {k n : ℕ} → checked_of allowance s ≡ Err (not_accepted r k n) → rewritten_of allowance s d ≡ (Err (at_record r k), d)
   unfolding rewritten_of
   refused p = rw p
 
-  pub too_short : {n : ℕ} → checked_of allowance s ≡ Accepted n → length d < length s → rewritten_of allowance s d ≡ (rewrote.Refused (NoRoom (length s)) 0, d)
+  pub too_short : {n : ℕ} → checked_of allowance s ≡ Ok n → length d < length s → rewritten_of allowance s d ≡ (Err (at_record (NoRoom (length s)) 0), d)
   unfolding rewritten_of
   too_short p h = rw (p, lt-leb (length s) (length d) h)
 
@@ -56,9 +56,9 @@ laid_stand o s bytes before after at (p ∷ ps) long ((start, c), (whole, w)) =
     (here, subst (λ (l : List ℕ). Stands l o s ps) same (laid_stand o s bytes (before ++ back) after (at + p.length) ps next (c, w)))
 
 -- For an accepted file and a destination with room:
-module _ (allowance : ℕ) (s : List ℕ) (bytes : Bytes s) {n : ℕ} (p : checked_of allowance s ≡ Accepted n) (d : List ℕ) (room : length s ≤ length d) where
+module _ (allowance : ℕ) (s : List ℕ) (bytes : Bytes s) {n : ℕ} (p : checked_of allowance s ≡ Ok n) (d : List ℕ) (room : length s ≤ length d) where
   -- the answer is the file's length;
-  pub answer : (rewritten_of allowance s d).0 ≡ rewrote.Bytes (length s)
+  pub answer : (rewritten_of allowance s d).0 ≡ Ok (length s)
   unfolding rewritten_of
   answer = rw (p, le-leb (length s) (length d) room)
 

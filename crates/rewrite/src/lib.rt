@@ -7,42 +7,28 @@ ghost use Rattle.rewrite.specs.Rewritten.{back_of, rewritten_of};
 ghost use Rattle.rewrite.specs.Back.{header_back, vlr_back, point_back, points_back, part_back};
 ghost use Rattle.rewrite.specs.Asked.{Tiles, VlrPart, PointPart, PointsPart, HeaderPart, PartIs};
 
-use cursor::{Cursor, Kind, Started};
+use cursor::{Cursor, Kind};
 use format::Format;
 use header::Header;
 use outline::Outline;
-use point::{Point, PointRead};
-use refusal::Refusal;
+use point::Point;
+use refusal::{Refusal, Refused};
 use vlr::Vlr;
-
-// The bytes written, which are those of the file, or a refusal with its record number.
-#[derive(Clone, Copy)]
-pub enum Rewrote {
-    Bytes(usize),
-    Refused { refusal: Refusal, record: u64 },
-}
 
 // Rewrites a file to the front of the destination and leaves what lies past it: every part is written, in its place, from
 // what its reader answers, and gaps are copied. Refuses what the file check refuses, then with 22 and the file's length
 // where the destination is shorter; a refusal changes nothing.
-pub fn rewrite(file: &[u8], allowance: u64, dst: &mut [u8]) -> Rewrote
+pub fn rewrite(file: &[u8], allowance: u64, dst: &mut [u8]) -> Result<usize, Refused>
     ensures { (result, dst.new) ≡ rewritten_of allowance file.now dst.old }
 {
-    match cursor::start(file, allowance) {
-        Started::At(c) => {
-            let n = file.len();
-            if dst.len() < n {
-                return Rewrote::Refused {
-                    refusal: Refusal::NoRoom(n as u64),
-                    record: 0,
-                };
-            }
-            let header = Header::read_from(file).header;
-            rewrite_parts(file, Outline::of(header), c, dst);
-            Rewrote::Bytes(n)
-        }
-        Started::Refused { refusal, record } => Rewrote::Refused { refusal, record },
+    let c = cursor::start(file, allowance)?;
+    let n = file.len();
+    if dst.len() < n {
+        return Err(Refusal::NoRoom(n as u64).into());
     }
+    let header = Header::read_from(file)?;
+    rewrite_parts(file, Outline::of(header), c, dst);
+    Ok(n)
 }
 
 // The parts from the cursor on, each into the rest of the destination.
@@ -51,11 +37,7 @@ fn rewrite_parts(file: &[u8], o: Outline, c: Cursor, dst: &mut [u8])
     ensures { dst.new ≡ back_of o file.now (left_of file.now c) ++ drop (length file.now) dst.old }
 {
     let mut c = c;
-    loop {
-        let step = cursor::next(file, c);
-        if !step.has {
-            return;
-        }
+    while let Some(step) = cursor::next(file, c) {
         let part = step.part;
         let kind = part.kind;
         let from = part.start as usize;
@@ -89,25 +71,31 @@ fn copy_gap(src: &[u8], dst: &mut [u8])
     requires { length src.now ≤ length dst.old }
     ensures { dst.new ≡ src.now ++ drop (length src.now) dst.old }
 {
-    lent::put(dst, src);
+    dst[..src.len()].copy_from_slice(src);
 }
 
-// The header and its padding, written from what their readers answer.
+// The header and its padding, written from what their readers answer. A whole header is not refused, so the else is not
+// reached.
 fn rewrite_header(src: &[u8], dst: &mut [u8])
     requires { HeaderPart src.now × (length src.now ≤ length dst.old) }
     ensures { dst.new ≡ header_back src.now ++ drop (length src.now) dst.old }
 {
-    let header = Header::read_from(src).header;
-    header_write::write_to(header, header::padding(src), dst);
+    let Ok(header) = Header::read_from(src) else {
+        return;
+    };
+    let _ = header_write::write_to(header, header::padding(src), dst);
 }
 
-// A VLR, or an EVLR or the waveform packets, and its data, written from what their readers answer.
+// A VLR, or an EVLR or the waveform packets, and its data, written from what their readers answer. A whole record is not
+// refused, so the else is not reached.
 fn rewrite_vlr(src: &[u8], extended: bool, dst: &mut [u8])
     requires { VlrPart extended src.now × (length src.now ≤ length dst.old) }
     ensures { dst.new ≡ vlr_back extended src.now ++ drop (length src.now) dst.old }
 {
-    let vlr = Vlr::read_from(src, extended).vlr;
-    vlr_write::write_to(vlr, vlr::data(src, extended), dst);
+    let Ok(vlr) = Vlr::read_from(src, extended) else {
+        return;
+    };
+    let _ = vlr_write::write_to(vlr, vlr::data(src, extended), dst);
 }
 
 // One record after the other, each into the rest of the destination.
@@ -115,13 +103,12 @@ fn rewrite_points(src: &[u8], format: Format, record_length: usize, count: usize
     requires { PointsPart format record_length count src.now × (length src.now ≤ length dst.old) }
     ensures { dst.new ≡ points_back format record_length count src.now ++ drop (length src.now) dst.old }
 {
+    // Stays: the place is counted, since each record is written into the tail of `dst` that is lent to its writer.
     let mut at = 0;
-    let mut left = count;
-    while left > 0 {
+    for _ in 0..count {
         let next = at + record_length;
         rewrite_point(&src[at..next], format, &mut dst[at..]);
         at = next;
-        left -= 1;
     }
 }
 
@@ -131,8 +118,8 @@ fn rewrite_point(src: &[u8], format: Format, dst: &mut [u8])
     requires { PointPart format src.now × (length src.now ≤ length dst.old) }
     ensures { dst.new ≡ point_back format src.now ++ drop (length src.now) dst.old }
 {
-    let PointRead::Is(point) = Point::read_from(src, format) else {
+    let Ok(point) = Point::read_from(src, format) else {
         return;
     };
-    point_write::write_to(point, point::extra_bytes(src, format), dst, format);
+    let _ = point_write::write_to(point, point::extra_bytes(src, format), dst, format);
 }

@@ -1,7 +1,7 @@
 -- Laws of the formats that the rules speak of.
+use Rattle.std.specs.Prelude.{Ok}
 use Rattle.std.specs.Prelude.{ℕ, ◌-◌, ◌≤◌, ◌≡◌, refl, true, false, ltb}
 use Rattle.std.proofs.Common.{arith, lt-ltb}
-use Rattle.format.specs.declared.FormatLen.TheVariants as len
 use Rattle.format.specs.Codes.{coded}
 use Rattle.format.specs.Format.{with_extra}
 use Rattle.format.specs.Fields.{record_bytes, len_of}
@@ -13,7 +13,7 @@ pub format_bytes_lem : (f : ℕ) → (20 ≤ format_bytes f) × (format_bytes f 
 unfolding format_bytes
 format_bytes_lem f = coded-bytes f false
 
-pub has-length : (f : ℕ) → len_of (coded f false) ≡ len.Is (format_bytes f)
+pub has-length : (f : ℕ) → len_of (coded f false) ≡ Ok (format_bytes f)
 unfolding format_bytes
 has-length f = coded-len f false
 

@@ -1,4 +1,5 @@
 -- definitions
+pub mod NotAccepted
 pub mod Rules
 pub mod Steps
 -- laws

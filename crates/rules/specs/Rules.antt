@@ -1,4 +1,7 @@
 -- Document 01, "When a file is accepted": what a rule is, rules 2 to 5, and those of records one after the other. All sums are exact.
+use Rattle.std.specs.Prelude.{Result, Err}
+use Rattle.rules.specs.NotAccepted.{not_accepted}
+use Rattle.rules.specs.declared.NotAccepted.{NotAccepted}
 use Rattle.std.specs.Prelude.{ℕ, zero, suc, Bool, true, false, cond, ◌||◌, List, [], ◌∷◌, eqb, ltb, leb, length, drop}
 use Rattle.refusal.specs.declared.Refusal.{Refusal}
 use Rattle.refusal.specs.declared.Refusal.TheVariants.{HeaderSize, Format, Compressed, FormatForVersion, RecordLength as ShortRecord, PointOffset, Allowance, VlrExtent, EvlrExtent}
@@ -10,8 +13,6 @@ use Rattle.vlr.specs.declared.RecordLength.TheVariants as kind
 use Rattle.vlr.specs.Layout.{head_size}
 use Rattle.vlr.specs.Vlr.{length_of, record_size}
 use Rattle.outline.specs.declared.Outline.{Outline}
-use Rattle.rules.specs.declared.Checked.{Checked}
-use Rattle.rules.specs.declared.Checked.TheVariants as checked
 
 -- A rule: whether it holds, the refusal where it does not, and the number of records found whole before it.
 pub record Rule : Type 0 where
@@ -26,11 +27,11 @@ rule b r n = record { holds = b; refusal = r; found = n }
 unfoldable pub record_number : Refusal → ℕ → ℕ
 record_number r n = cond (eqb (number_of r) 10 || (eqb (number_of r) 11 || eqb (number_of r) 13)) (suc n) 0
 
-abbrev pub refused_by : Rule → Checked
-refused_by r = checked.Refused r.refusal (record_number r.refusal r.found) r.found
+abbrev pub refused_by : Rule → Result ℕ NotAccepted
+refused_by r = Err (not_accepted r.refusal (record_number r.refusal r.found) r.found)
 
 -- "Checked in this order; the first that fails is the answer."
-unfoldable pub first : List Rule → Checked → Checked
+unfoldable pub first : List Rule → Result ℕ NotAccepted → Result ℕ NotAccepted
 first [] done = done
 first (r ∷ rs) done = cond r.holds (first rs done) (refused_by r)
 

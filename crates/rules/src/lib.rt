@@ -3,38 +3,56 @@
 #![tactic(auto)]
 
 ghost use Rattle.std.specs.Prelude.{◌≡◌, ◌+◌, ◌-◌, ◌<◌};
-ghost use Rattle.rules.specs.declared.Checked.TheVariants as checked;
 ghost use Rattle.rules.specs.Rules.{first, highest_format, format_bytes, header_rules, too_far, no_length, record_rules};
 ghost use Rattle.rules.specs.Steps.{measured_of};
+ghost use Rattle.rules.specs.NotAccepted.{not_accepted};
 
-use format::{Format, FormatLen, NewFormat};
+use format::Format;
 use outline::Outline;
-use refusal::Refusal;
-use vlr::{Extent, RecordLength, StatedLength};
+use refusal::{Refusal, Refused};
+use vlr::RecordLength;
 
-// Accepted or refused, with the number of records found whole before the answer; a refusal has its record number beside it.
+// Why a file is not accepted, the number of the record that the refusal speaks of, 0 where it names none, and the number of records
+// found whole before it.
 #[derive(Clone, Copy)]
-pub enum Checked {
-    Accepted {
-        records: u64,
-    },
-    Refused {
-        refusal: Refusal,
-        record: u64,
-        records: u64,
-    },
+pub struct NotAccepted {
+    pub refusal: Refusal,
+    pub record: u64,
+    pub records: u64,
 }
 
-// The bytes of a record, head and data, or 11 or 13.
-#[derive(Clone, Copy)]
-enum Measured {
-    Bytes(usize),
-    Refused(Refusal),
+// A refusal before the first record.
+impl From<Refusal> for NotAccepted {
+    ghost use Rattle.rules.specs.NotAccepted.{not_accepted};
+
+    ghost from_gives = { λ refusal found. found ≡ not_accepted refusal 0 0 };
+
+    fn from(refusal: Refusal) -> NotAccepted {
+        NotAccepted {
+            refusal,
+            record: 0,
+            records: 0,
+        }
+    }
+}
+
+// To a caller that counts no records.
+impl From<NotAccepted> for Refused {
+    ghost use Rattle.rules.specs.NotAccepted.{refused_of};
+
+    ghost from_gives = { λ found refused. refused ≡ refused_of found };
+
+    fn from(found: NotAccepted) -> Refused {
+        Refused {
+            refusal: found.refusal,
+            record: found.record,
+        }
+    }
 }
 
 // Rules 2 to 5, in a file of `len` bytes.
-pub fn check_header(block: usize, minor: u8, o: Outline, len: usize) -> Checked
-    ensures { result ≡ first (header_rules block minor o len) (checked.Accepted 0) }
+pub fn check_header(block: usize, minor: u8, o: Outline, len: usize) -> Result<u64, NotAccepted>
+    ensures { result ≡ first (header_rules block minor o len) (Ok 0) }
 {
     let f = o.point_data_record_format;
     if (o.header_size as usize) < block {
@@ -58,31 +76,35 @@ pub fn check_header(block: usize, minor: u8, o: Outline, len: usize) -> Checked
     if len < o.offset_to_point_data as usize {
         return refused(Refusal::PointOffset(o.offset_to_point_data), 0);
     }
-    Checked::Accepted { records: 0 }
+    Ok(0)
 }
 
 // `count` records at the start of `rest`, one after the other, after `found` others; each spends one of what those left of the
 // allowance.
-pub fn check_records(rest: &[u8], extended: bool, allowance: u64, found: u32, count: u32) -> Checked
-    ensures { result ≡ first (record_rules extended allowance found count rest.now) (checked.Accepted (found + count)) }
+pub fn check_records(
+    rest: &[u8],
+    extended: bool,
+    allowance: u64,
+    found: u32,
+    count: u32,
+) -> Result<u64, NotAccepted>
+    ensures { result ≡ first (record_rules extended allowance found count rest.now) (Ok (found + count)) }
 {
     let mut at: usize = 0;
     let mut whole = found as u64;
     let mut allowed = unspent(allowance, whole);
-    let mut left = count;
-    while left > 0 {
+    for _ in 0..count {
         if allowed == 0 {
             return refused_record(Refusal::Allowance(allowance), whole);
         }
         allowed -= 1;
         match measure(&rest[at..], extended) {
-            Measured::Bytes(n) => at += n,
-            Measured::Refused(refusal) => return refused_record(refusal, whole),
+            Ok(n) => at += n,
+            Err(refusal) => return refused_record(refusal, whole),
         }
         whole += 1;
-        left -= 1;
     }
-    Checked::Accepted { records: whole }
+    Ok(whole)
 }
 
 // What is left of an allowance of which some is spent.
@@ -96,15 +118,15 @@ fn unspent(allowance: u64, spent: u64) -> u64
 }
 
 // How many bytes the record at the start of `rest` takes; 11, for an EVLR 13, where it ends too late.
-fn measure(rest: &[u8], extended: bool) -> Measured
+fn measure(rest: &[u8], extended: bool) -> Result<usize, Refusal>
     ensures { result ≡ measured_of extended rest.now }
 {
-    let StatedLength::Is(stated) = vlr::stated(rest, extended) else {
-        return Measured::Refused(too_far(no_length(extended)));
+    let Ok(stated) = vlr::stated(rest, extended) else {
+        return Err(too_far(no_length(extended)));
     };
     match vlr::measure(rest, extended) {
-        Extent::Bytes(n) => Measured::Bytes(n),
-        Extent::Refused(_) => Measured::Refused(too_far(stated)),
+        Ok(n) => Ok(n),
+        Err(_) => Err(too_far(stated)),
     }
 }
 
@@ -150,34 +172,34 @@ fn format_length(f: u8) -> u16
     requires { f < 11 }
     ensures { result ≡ format_bytes f }
 {
-    let NewFormat::Is(format) = Format::new(f) else {
+    let Ok(format) = Format::new(f) else {
         return 0;
     };
-    let FormatLen::Is(n) = format.len() else {
+    let Ok(n) = format.len() else {
         return 0;
     };
     n
 }
 
 // A refusal that names no record, after `records` whole ones.
-pub fn refused(refusal: Refusal, records: u64) -> Checked
-    ensures { result ≡ checked.Refused refusal 0 records }
+pub fn refused(refusal: Refusal, records: u64) -> Result<u64, NotAccepted>
+    ensures { result ≡ Err (not_accepted refusal 0 records) }
 {
-    Checked::Refused {
+    Err(NotAccepted {
         refusal,
         record: 0,
         records,
-    }
+    })
 }
 
 // A refusal of the record after `records` whole ones.
-fn refused_record(refusal: Refusal, records: u64) -> Checked
+fn refused_record(refusal: Refusal, records: u64) -> Result<u64, NotAccepted>
     requires { records < 18446744073709551615 }
-    ensures { result ≡ checked.Refused refusal (records + 1) records }
+    ensures { result ≡ Err (not_accepted refusal (records + 1) records) }
 {
-    Checked::Refused {
+    Err(NotAccepted {
         refusal,
         record: records + 1,
         records,
-    }
+    })
 }

@@ -1,4 +1,7 @@
 -- Which sectors are stored, what point stores leave in whatever order, and that a file of bytes stays one.
+use Rattle.std.specs.Prelude.{Option, Result}
+use Rattle.sectors.specs.declared.Sector.{Sector}
+use Rattle.refusal.specs.declared.Refusal.{Refusal}
 use Prim.Native.Nat.{ℕ, zero, suc, ◌+◌, ◌-◌, ◌*◌, ◌/◌, ◌≤◌, ◌<◌, min, max}
 use Rattle.std.specs.Prelude.{◌≡◌, Bool, cond, ◌↔◌, ltb, eqb, set, drop}
 use Rattle.std.proofs.Math.Path.{refl}
@@ -16,7 +19,6 @@ use Rattle.fields.specs.Table.{joined, All, none, ◌&◌}
 use Rattle.store.specs.Parts.{drop_sets, part_sets}
 use Rattle.store.specs.Elsewhere.{Elsewhere, nowhere, then_elsewhere}
 use Rattle.offer.specs.declared.Sweep.{Sweep}
-use Rattle.sectors.specs.declared.Stored.{Stored}
 use Rattle.sectors.specs.Sectors.{point_stores, stores_of, sector_of, with_records, by_return_of, with_header, step_of, stored_of, after_stores}
 use Rattle.sectors.specs.Laws.{OneSector, touched, after-length, after_next, whole-sector, point_store, header_store}
 
@@ -52,7 +54,7 @@ module _ (w : Sweep) (records bounds : List ℕ) where
       (either (ltb (length s) (w.at + w.bytes)) _ _ (λ e. same)
       (either (ltb k (point_stores w)) _ _ (λ e. point (ltb-true _ _ e)) (either (eqb k (point_stores w)) _ _ (λ e. header (eqb-true _ _ e)) same)))
     where
-      either : (b : Bool) (x y : Stored × List ℕ) → (b ≡ true → P x.1) → P y.1 → P (cond b x y).1
+      either : (b : Bool) (x y : Result (Option Sector) Refusal × List ℕ) → (b ≡ true → P x.1) → P y.1 → P (cond b x y).1
       either true x y p q = p refl
       either false x y p q = q
 
@@ -98,10 +100,10 @@ module _ (w : Sweep) (records bounds : List ℕ) where
         fits = omega (arith, after-length w records bounds k s)
 
         go : (b : Bool) → ltb k (point_stores w) ≡ b → let number = cond b (w.at / 512 + k) 0 in (stored_of w records bounds k t ≡ (sector_of number (length s), u)) × OneSector number t u
-        go true e = told-one (w.at / 512 + k) (ap (λ (r : Stored × List ℕ). r.0) (point_store w records bounds there t fits k (ltb-true _ _ e)))
+        go true e = told-one (w.at / 512 + k) (ap (λ (r : Result (Option Sector) Refusal × List ℕ). r.0) (point_store w records bounds there t fits k (ltb-true _ _ e)))
         go false e =
             let last : k ≡ point_stores w = omega (arith, ltb-false k (point_stores w) e, stores_are w) in
-            told-one 0 (ap (λ (j : ℕ). (stored_of w records bounds j t).0) last ∙ ap (λ (r : Stored × List ℕ). r.0) (header_store w records bounds there t fits))
+            told-one 0 (ap (λ (j : ℕ). (stored_of w records bounds j t).0) last ∙ ap (λ (r : Result (Option Sector) Refusal × List ℕ). r.0) (header_store w records bounds there t fits))
 
   module _ (made : Bytes records) where
     records_made : (number : ℕ) (s : List ℕ) → Bytes s → Bytes (with_records w records number s)

@@ -1,4 +1,6 @@
 -- What the file's header reads after the last store, field by field, and what that store leaves as it was.
+use Rattle.std.specs.Prelude.{Ok}
+use Rattle.header.specs.Whole.{whole_of}
 use Rattle.std.specs.Prelude.{ℕ, ◌^◌, ◌≤◌, ◌<◌, ◌≡◌, false, length, get_or, take, drop}
 use Rattle.std.proofs.Math.Path.{refl, ap}
 use Rattle.std.proofs.Common.{sym, ◌∙◌, ⊎_elim, arith, length-take-le}
@@ -10,14 +12,12 @@ use Rattle.le.specs.Laws.{num-lt}
 use Rattle.fields.specs.Table.{part, joined}
 use Rattle.store.specs.Parts.{take_sets, drop_sets, part_sets, part-there}
 use Rattle.header.specs.declared.Header.{Header}
-use Rattle.header.specs.declared.HeaderRead.{HeaderRead}
-use Rattle.header.specs.declared.HeaderAnswer.TheVariants.{Whole}
 use Rattle.header.specs.Kinds.{Number, Numbers, nums}
 use Rattle.header.specs.Layout.{FileSignature, VersionMajor, VersionMinor, HeaderSize, LegacyNumberOfPointRecords, LegacyNumberOfPointsByReturn, MaxX, place, kind, width}
 use Rattle.header.specs.Header.{number, value, header_of}
-use Rattle.header.specs.Judged.{judged, read_of}
+use Rattle.header.specs.Judged.{judged, header_in}
 use Rattle.header.specs.Laws.{within, same_answer}
-use Rattle.header.specs.Answers.{read_whole}
+use Rattle.header.specs.Answers.{header_whole}
 use Rattle.header.specs.Minor.{points_read, no-large, no_evlr, points_legacy}
 use Rattle.header.specs.Values.{length-numbers, value_same, value_again}
 use Rattle.header.specs.Updated.{updated, Beside, header_updated, updated_alike, updated-points}
@@ -125,25 +125,25 @@ module _ (w : Sweep) (bounds : List ℕ) where
       outline_alike g h a ∙ ap (λ (k : ℕ). counting k (outline_of h)) (points_legacy g (a.large ∙ none) ∙ updated-points w.points (by_return_of w) bounds h)
 
   -- "the header's count, the five counts by return .. and the bounds change": they read as given, and every other field as it did.
-  module _ (fits : Fitting w bounds) (s : List ℕ) {n e : ℕ} (p : judged s ≡ Whole n e) where
-    pub header_read : (read_of (with_header w bounds s)).header ≡ header_with w bounds (read_of s).header
+  module _ (fits : Fitting w bounds) (s : List ℕ) {n e : ℕ} (p : judged s ≡ Ok (whole_of n e)) where
+    pub header_read : header_in (with_header w bounds s) ≡ header_with w bounds (header_in s)
     header_read =
         let in_block : 227 ≤ length (take n s) = omega (arith, length-take-le n s (omega (arith, (within s p).1, (within s p).2)), (within s p).0) in
-        ap (λ (r : HeaderRead). r.header) (read_whole (with_header w bounds s) (judged_header fits.six s ∙ p))
+        header_whole (with_header w bounds s) (judged_header fits.six s ∙ p)
         ∙ ap header_of (take_header n s)
         ∙ block_header fits (take n s) in_block
-        ∙ ap (λ (r : HeaderRead). header_with w bounds r.header) (sym (read_whole s p))
+        ∙ ap (header_with w bounds) (sym (header_whole s p))
 
-    pub outline_read : (read_of s).header.version.minor ≡ 2 → outline_of (read_of (with_header w bounds s)).header ≡ counting w.points (outline_of (read_of s).header)
-    outline_read two = ap outline_of header_read ∙ outline_with_lem (read_of s).header (no-large s p (omega arith))
+    pub outline_read : (header_in s).version.minor ≡ 2 → outline_of (header_in (with_header w bounds s)) ≡ counting w.points (outline_of (header_in s))
+    outline_read two = ap outline_of header_read ∙ outline_with_lem (header_in s) (no-large s p (omega arith))
 
 -- In version 1.2 the outline's count is the header's field, which has four bytes, and there are no later records.
-module _ (s : List ℕ) {n e : ℕ} (p : judged s ≡ Whole n e) (two : (read_of s).header.version.minor ≡ 2) where
-  pub count_12 : (outline_of (read_of s).header).number_of_point_records ≡ number LegacyNumberOfPointRecords s
-  count_12 = count_is (read_of s).header ∙ points_legacy (read_of s).header (no-large s p (omega arith)) ∙ points_read s p
+module _ (s : List ℕ) {n e : ℕ} (p : judged s ≡ Ok (whole_of n e)) (two : (header_in s).version.minor ≡ 2) where
+  pub count_12 : (outline_of (header_in s)).number_of_point_records ≡ number LegacyNumberOfPointRecords s
+  count_12 = count_is (header_in s) ∙ points_legacy (header_in s) (no-large s p (omega arith)) ∙ points_read s p
 
-  pub count_12_fits : Bytes s → (outline_of (read_of s).header).number_of_point_records < 2 ^ 32
+  pub count_12_fits : Bytes s → (outline_of (header_in s)).number_of_point_records < 2 ^ 32
   count_12_fits bytes = rw count_12 (num-lt 4 s (place LegacyNumberOfPointRecords) bytes)
 
-  pub none-after_12 : ((outline_of (read_of s).header).start_of_later_records ≡ 0) × ((outline_of (read_of s).header).number_of_later_records ≡ 0)
-  none-after_12 = no_evlrs (read_of s).header (λ three. omega arith) (no_evlr s p (omega arith))
+  pub none-after_12 : ((outline_of (header_in s)).start_of_later_records ≡ 0) × ((outline_of (header_in s)).number_of_later_records ≡ 0)
+  none-after_12 = no_evlrs (header_in s) (λ three. omega arith) (no_evlr s p (omega arith))

@@ -1,4 +1,7 @@
 -- Laws of the stores: which sector each changes, and what stands there after some of them and after all.
+use Rattle.std.specs.Prelude.{Option, Some, None, Result, Ok, Err}
+use Rattle.sectors.specs.Sector.{sector_at, sector_same}
+use Rattle.sectors.specs.declared.Sector.{Sector}
 use Prim.Native.Nat.{ℕ, zero, suc, ◌+◌, ◌*◌, ◌-◌, ◌/◌, ◌≤◌, ◌<◌, min, max}
 use Rattle.std.specs.Prelude.{◌≡◌, Bool, eqb}
 use Rattle.std.proofs.Math.Path.{refl, ap}
@@ -17,8 +20,6 @@ use Rattle.refusal.specs.declared.Refusal.TheVariants.{Short, NoRoom}
 use Rattle.refusal.specs.Table.{wanted_of}
 use Rattle.store.specs.Parts.{drop_sets, part_sets, drop_past, sets_take, sets_same}
 use Rattle.offer.specs.declared.Sweep.{Sweep}
-use Rattle.sectors.specs.declared.Stored.{Stored}
-use Rattle.sectors.specs.declared.Stored.TheVariants.{Sector, Done, Refused}
 use Rattle.sectors.specs.Sectors.{point_stores, stores_of, sector_of, with_records, with_header, step_of, stored_of, after_stores}
 use Rattle.sectors.specs.Header.{length_header, drop_header}
 
@@ -71,31 +72,31 @@ module _ (w : Sweep) where
       rw (next, e.1, e.2, e.0) (sets_take s records w.at p q (omega arith) (omega arith))
 
 -- the answer of a store that is made
-sector_is : {a l at len : ℕ} {d t : List ℕ} → ◌≡◌ {A = Stored × List ℕ} (Sector a l, d) (Sector at len, t) → (at ≡ a) × (len ≡ l) × (t ≡ d)
+sector_is : {a l at len : ℕ} {d t : List ℕ} → ◌≡◌ {A = Result (Option Sector) Refusal × List ℕ} (Ok (Some (sector_at a l)), d) (Ok (Some (sector_at at len)), t) → (at ≡ a) × (len ≡ l) × (t ≡ d)
 sector_is {a} {l} {at} {len} e =
-    let q : Sector a l ≡ Sector at len = ap (λ (r : Stored × List ℕ). r.0) e in
-    (cc, cc, sym (ap (λ (r : Stored × List ℕ). r.1) e))
+    let q = sector_same (ap (λ (r : Result (Option Sector) Refusal × List ℕ). r.0) e) in
+    (sym q.0, sym q.1, sym (ap (λ (r : Result (Option Sector) Refusal × List ℕ). r.1) e))
 
-refused_none : {x : Refusal} {at len : ℕ} {d t : List ℕ} → ◌≡◌ {A = Stored × List ℕ} (Refused x, d) (Sector at len, t) → ⊥
+refused_none : {x : Refusal} {at len : ℕ} {d t : List ℕ} → ◌≡◌ {A = Result (Option Sector) Refusal × List ℕ} (Err x, d) (Ok (Some (sector_at at len)), t) → ⊥
 refused_none {x} {at} {len} e =
-    let q : Refused x ≡ Sector at len = ap (λ (r : Stored × List ℕ). r.0) e in
+    let q : Err x ≡ Ok (Some (sector_at at len)) = ap (λ (r : Result (Option Sector) Refusal × List ℕ). r.0) e in
     let z : ◌≡◌ {A = ℕ} 0 1 = cc in
     omega arith
 
-done_none : {at len : ℕ} {d t : List ℕ} → ◌≡◌ {A = Stored × List ℕ} (Done, d) (Sector at len, t) → ⊥
+done_none : {at len : ℕ} {d t : List ℕ} → ◌≡◌ {A = Result (Option Sector) Refusal × List ℕ} ((Ok None), d) (Ok (Some (sector_at at len)), t) → ⊥
 done_none {at} {len} e =
-    let q : Done ≡ Sector at len = ap (λ (r : Stored × List ℕ). r.0) e in
+    let q : (Ok None) ≡ Ok (Some (sector_at at len)) = ap (λ (r : Result (Option Sector) Refusal × List ℕ). r.0) e in
     let z : ◌≡◌ {A = ℕ} 0 1 = cc in
     omega arith
 
 module _ (w : Sweep) (records bounds : List ℕ) where
   -- what a store answers and leaves, by its tests
-  abbrev told : ℕ → List ℕ → Bool → Bool → Bool → Bool → Stored × List ℕ
+  abbrev told : ℕ → List ℕ → Bool → Bool → Bool → Bool → Result (Option Sector) Refusal × List ℕ
   told k s short over point last =
-      cond short (Refused (Short w.bytes), s)
-      (cond over (Refused (NoRoom (wanted_of (w.at + w.bytes))), s)
+      cond short (Err (Short w.bytes), s)
+      (cond over (Err (NoRoom (wanted_of (w.at + w.bytes))), s)
       (cond point (sector_of (w.at / 512 + k) (length s), with_records w records (w.at / 512 + k) s)
-      (cond last (sector_of 0 (length s), with_header w bounds s) (Done, s))))
+      (cond last (sector_of 0 (length s), with_header w bounds s) ((Ok None), s))))
 
   pub stored-length : (k : ℕ) (s : List ℕ) → length (stored_of w records bounds k s).1 ≡ length s
   unfolding stored_of step_of with_records
@@ -138,12 +139,12 @@ module _ (w : Sweep) (records bounds : List ℕ) where
     header_sector s = in_sector 0 s (with_header w bounds s) (length_header w bounds s) refl (drop_header w bounds six 512 s (omega arith))
 
     -- a store that is made changes one sector: the k-th that the records touch, and after these sector 0
-    pub whole-sector : (k at len : ℕ) (s t : List ℕ) → stored_of w records bounds k s ≡ (Sector at len, t) → (length t ≡ length s) × (take at t ≡ take at s) × (drop (at + len) t ≡ drop (at + len) s) × (at ≡ cond (ltb k (point_stores w)) (512 * (w.at / 512 + k)) 0) × (len ≡ min 512 (length s - at))
+    pub whole-sector : (k at len : ℕ) (s t : List ℕ) → stored_of w records bounds k s ≡ (Ok (Some (sector_at at len)), t) → (length t ≡ length s) × (take at t ≡ take at s) × (drop (at + len) t ≡ drop (at + len) s) × (at ≡ cond (ltb k (point_stores w)) (512 * (w.at / 512 + k)) 0) × (len ≡ min 512 (length s - at))
     unfolding stored_of step_of
     whole-sector k at len s t e =
         go (ltb (length records) w.bytes) (ltb (length s) (w.at + w.bytes)) (ltb k (point_stores w)) (eqb k (point_stores w)) refl e
       where
-        go : (short over point last : Bool) → ltb k (point_stores w) ≡ point → told k s short over point last ≡ (Sector at len, t) → (length t ≡ length s) × (take at t ≡ take at s) × (drop (at + len) t ≡ drop (at + len) s) × (at ≡ cond (ltb k (point_stores w)) (512 * (w.at / 512 + k)) 0) × (len ≡ min 512 (length s - at))
+        go : (short over point last : Bool) → ltb k (point_stores w) ≡ point → told k s short over point last ≡ (Ok (Some (sector_at at len)), t) → (length t ≡ length s) × (take at t ≡ take at s) × (drop (at + len) t ≡ drop (at + len) s) × (at ≡ cond (ltb k (point_stores w)) (512 * (w.at / 512 + k)) 0) × (len ≡ min 512 (length s - at))
         go true over point last x e = absurd (refused_none e)
         go false true point last x e = absurd (refused_none e)
         go false false true last x e =
@@ -157,13 +158,13 @@ module _ (w : Sweep) (records bounds : List ℕ) where
         go false false false false x e = absurd (done_none e)
 
   -- refused: the records are not there
-  pub short-store : (k : ℕ) (s : List ℕ) → length records < w.bytes → stored_of w records bounds k s ≡ (Refused (Short w.bytes), s)
+  pub short-store : (k : ℕ) (s : List ℕ) → length records < w.bytes → stored_of w records bounds k s ≡ (Err (Short w.bytes), s)
   unfolding stored_of
   short-store k s h = rw (lt-ltb _ _ h)
 
   module _ (there : w.bytes ≤ length records) where
     -- or have no place
-    pub beyond-store : (k : ℕ) (s : List ℕ) → length s < w.at + w.bytes → stored_of w records bounds k s ≡ (Refused (NoRoom (wanted_of (w.at + w.bytes))), s)
+    pub beyond-store : (k : ℕ) (s : List ℕ) → length s < w.at + w.bytes → stored_of w records bounds k s ≡ (Err (NoRoom (wanted_of (w.at + w.bytes))), s)
     unfolding stored_of
     beyond-store k s h = rw (le-ltb _ _ there, lt-ltb _ _ h)
 
@@ -182,7 +183,7 @@ module _ (w : Sweep) (records bounds : List ℕ) where
       header_store =
           not-refused (point_stores w) ∙ rw (le-ltb (point_stores w) (point_stores w) (le_refl (point_stores w)), eq-eqb (point_stores w) (point_stores w) refl)
 
-      pub no_store : (k : ℕ) → point_stores w < k → stored_of w records bounds k s ≡ (Done, s)
+      pub no_store : (k : ℕ) → point_stores w < k → stored_of w records bounds k s ≡ ((Ok None), s)
       unfolding step_of
       no_store k h =
           let past : point_stores w ≤ k = omega arith in
@@ -200,7 +201,7 @@ module _ (w : Sweep) (records bounds : List ℕ) where
           let d : List ℕ = sets s w.at (take (min w.bytes (512 * (w.at / 512 + k) - w.at)) records) in
           let fits : w.at + w.bytes ≤ length d = rw length-sets room in
           ap (λ (x : List ℕ). (stored_of w records bounds k x).1) (prefix k (omega arith))
-          ∙ ap (λ (r : Stored × List ℕ). r.1) (point_store d fits k h)
+          ∙ ap (λ (r : Result (Option Sector) Refusal × List ℕ). r.1) (point_store d fits k h)
           ∙ next_piece w records there s k h
 
       -- after all of them all records
@@ -217,7 +218,7 @@ module _ (w : Sweep) (records bounds : List ℕ) where
           let fits : w.at + w.bytes ≤ length d = rw length-sets room in
           after_next (point_stores w) s
           ∙ ap (λ (x : List ℕ). (stored_of w records bounds (point_stores w) x).1) all-points
-          ∙ ap (λ (r : Stored × List ℕ). r.1) (header_store d fits)
+          ∙ ap (λ (r : Result (Option Sector) Refusal × List ℕ). r.1) (header_store d fits)
 
       -- past the last store nothing changes
       pub no_more : (k : ℕ) → after_stores w records bounds (stores_of w + k) s ≡ after_stores w records bounds (stores_of w) s
@@ -228,7 +229,7 @@ module _ (w : Sweep) (records bounds : List ℕ) where
           let fits : w.at + w.bytes ≤ length d = omega (arith, after-length (stores_of w) s) in
           rw add-suc
           (ap (λ (x : List ℕ). (stored_of w records bounds (stores_of w + k) x).1) (no_more k)
-          ∙ ap (λ (r : Stored × List ℕ). r.1) (no_store d fits (stores_of w + k) (omega arith)))
+          ∙ ap (λ (r : Result (Option Sector) Refusal × List ℕ). r.1) (no_store d fits (stores_of w + k) (omega arith)))
 
     -- whatever stands where the records go, all stores end the same
     pub tail_free : (s : List ℕ) → w.at + w.bytes ≤ length s → (t : List ℕ) → length t ≡ length s → take w.at t ≡ take w.at s → drop (w.at + w.bytes) t ≡ drop (w.at + w.bytes) s → after_stores w records bounds (stores_of w) t ≡ after_stores w records bounds (stores_of w) s

@@ -1,4 +1,5 @@
 -- definitions
+pub mod Sector
 pub mod Sectors
 -- laws
 pub mod Header

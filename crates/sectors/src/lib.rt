@@ -5,17 +5,16 @@
 ghost use Rattle.std.specs.Prelude.{◌≡◌, ◌+◌, ◌-◌, ◌*◌, ◌≤◌, ◌<◌, min, max, length};
 ghost use Rattle.refusal.specs.Table.{wanted_of};
 ghost use Rattle.sectors.specs.Sectors.{point_stores, stores_of, sector_of, with_records, with_header, stored_of};
+ghost use Rattle.sectors.specs.Sector.{sector_at};
 
 use offer::Sweep;
 use refusal::Refusal;
 
-// A sector as the caller writes it to the card: its first byte and its bytes in the file, 512 but for the file's last. Or all stores are
-// done; or why none is made.
+// A sector as the caller writes it to the card: its first byte and its bytes in the file, 512 but for the file's last.
 #[derive(Clone, Copy)]
-pub enum Stored {
-    Sector { at: u64, len: u64 },
-    Done,
-    Refused(Refusal),
+pub struct Sector {
+    pub at: u64,
+    pub len: u64,
 }
 
 // How many stores a sweep takes: a sector for each that its records touch, and then sector 0.
@@ -28,18 +27,24 @@ pub fn stores(sweep: Sweep) -> u64
 // Makes the k-th store of a sweep in the file, counted from 0, and tells which sector changed: the k-th that the records touch, with the
 // records' bytes in it; after these sector 0, with the header's counts and bounds. Past the last it does nothing. Refused with 1 where
 // there are fewer bytes than the sweep's, then with 22 where they would end beyond the file; it leaves the file then.
-pub fn store(file: &mut [u8], sweep: Sweep, records: &[u8], bounds: [u64; 6], k: u64) -> Stored
+pub fn store(
+    file: &mut [u8],
+    sweep: Sweep,
+    records: &[u8],
+    bounds: [u64; 6],
+    k: u64,
+) -> Result<Option<Sector>, Refusal>
     ensures { (result, file.new) ≡ stored_of sweep records.now bounds k file.old }
 {
     if (records.len() as u64) < sweep.bytes {
-        return Stored::Refused(Refusal::Short(sweep.bytes));
+        return Err(Refusal::Short(sweep.bytes));
     }
     let room = file.len() as u64;
     if room < sweep.at {
-        return Stored::Refused(Refusal::NoRoom(end_wanted(sweep)));
+        return Err(Refusal::NoRoom(end_wanted(sweep)));
     }
     if room - sweep.at < sweep.bytes {
-        return Stored::Refused(Refusal::NoRoom(end_wanted(sweep)));
+        return Err(Refusal::NoRoom(end_wanted(sweep)));
     }
     let points = point_stores(sweep);
     if k < points {
@@ -47,9 +52,9 @@ pub fn store(file: &mut [u8], sweep: Sweep, records: &[u8], bounds: [u64; 6], k:
     }
     if k == points {
         store_header(file, sweep, bounds);
-        return sector(file.len() as u64, 0);
+        return sector_from(file.len() as u64, 0);
     }
-    Stored::Done
+    Ok(None)
 }
 
 // How many sectors the records touch.
@@ -70,7 +75,12 @@ fn end_wanted(sweep: Sweep) -> u64
 }
 
 // The records' bytes in the sector of this number, which they touch.
-fn store_records(file: &mut [u8], sweep: Sweep, records: &[u8], number: u64) -> Stored
+fn store_records(
+    file: &mut [u8],
+    sweep: Sweep,
+    records: &[u8],
+    number: u64,
+) -> Result<Option<Sector>, Refusal>
     requires { (sweep.bytes ≤ length records.now) × (sweep.at + sweep.bytes ≤ length file.old) × (512 * number < sweep.at + sweep.bytes) × (sweep.at < 512 * number + 512) }
     ensures { (result ≡ sector_of number (length file.old)) × (file.new ≡ with_records sweep records.now number file.old) }
 {
@@ -81,7 +91,7 @@ fn store_records(file: &mut [u8], sweep: Sweep, records: &[u8], number: u64) -> 
     let first = (from - at) as usize;
     let last = (to - at) as usize;
     store::set_bytes(file, from as usize, &records[first..last]);
-    sector(file.len() as u64, start)
+    sector_from(file.len() as u64, start)
 }
 
 // The header's counts and bounds.
@@ -103,14 +113,14 @@ fn store_header(file: &mut [u8], sweep: Sweep, bounds: [u64; 6])
 }
 
 // The sector that begins at a byte of a file of so many.
-fn sector(len: u64, at: u64) -> Stored
+fn sector_from(len: u64, at: u64) -> Result<Option<Sector>, Refusal>
     requires { at ≤ len }
-    ensures { result ≡ Stored.Sector at (min 512 (len - at)) }
+    ensures { result ≡ Ok (Some (sector_at at (min 512 (len - at)))) }
 {
-    Stored::Sector {
+    Ok(Some(Sector {
         at,
         len: smaller(512, len - at),
-    }
+    }))
 }
 
 // The larger and the smaller of two numbers.

@@ -1,23 +1,21 @@
 -- When a file is added, and when it is refused: document 02, No. 9, "Refusals: the file's own, and a total over 2^64−1."
-use Rattle.std.specs.Prelude.{ℕ, zero, suc, ◌+◌, ◌^◌, ◌<◌, ◌≡◌, List, [], ◌∷◌, length, get_or}
+use Rattle.std.specs.Prelude.{Result, Ok, Err, ℕ, zero, suc, ◌+◌, ◌^◌, ◌<◌, ◌≡◌, List, [], ◌∷◌, length, get_or}
+use Rattle.rules.specs.NotAccepted.{not_accepted}
+use Rattle.refusal.specs.Refused.{at_record, refused_same}
+use Rattle.rules.specs.declared.NotAccepted.{NotAccepted}
 use Rattle.std.proofs.Math.Path.{refl}
-use Rattle.std.proofs.Common.{◌∙◌, arith}
+use Rattle.std.proofs.Common.{sym, ◌∙◌, arith}
 use Rattle.std.proofs.Math.Bool.{true, and-eq-true_iff}
 use Rattle.refusal.specs.declared.Refusal.{Refusal}
 use Rattle.refusal.specs.declared.Refusal.TheVariants.{TotalTooLarge}
-use Rattle.rules.specs.declared.Checked.{Checked}
-use Rattle.rules.specs.declared.Checked.TheVariants as checked
 use Rattle.file.specs.Rules.{checked_of}
-use Rattle.walker.specs.declared.Start.TheVariants as start
 use Rattle.walker.specs.Begin.{begin_of}
 use Rattle.walker.specs.Accepted.{begins, begins_refused}
 use Rattle.sheet_count.specs.declared.Tally.{Tally}
 use Rattle.sheet_count.specs.File.{tally_of}
 use Rattle.sheet_count.specs.Theorems.{each-class, each_return}
 use Rattle.sheet.specs.declared.Sheet.{Sheet}
-use Rattle.sheet.specs.declared.Answer.TheVariants as answer
-use Rattle.sheet.specs.declared.Added.{Added}
-use Rattle.sheet.specs.Sheet.{fits_in, all_fit, totals_fit, grown_by, added_of}
+use Rattle.sheet.specs.Sheet.{Added, fits_in, all_fit, totals_fit, grown_by, added_of}
 use Rattle.sheet.specs.Laws.{fits_says, says_fits, totals_say}
 use Rattle.sheet.specs.Fold.{points_of, of_class, of_return}
 use Rattle.sheet.specs.Steps.{tally_in, Step, by_check_lem, by_total, is_added, step, Sized, tally_sized}
@@ -31,11 +29,11 @@ pub record Totals (allowance : ℕ) (h : Sheet) (s : List ℕ) : Type 0 where
 
 module _ (allowance : ℕ) (h : Sheet) (s : List ℕ) where
   abbrev pub Accepted : Type 0
-  Accepted = (n : ℕ) × (checked_of allowance s ≡ checked.Accepted n)
+  Accepted = (n : ℕ) × (checked_of allowance s ≡ Ok n)
 
   -- the refusals in their order
   pub data RefusedFor : Refusal → ℕ → Type 0 where
-    file_check : {why : Refusal} {j n : ℕ} → checked_of allowance s ≡ checked.Refused why j n → RefusedFor why j
+    file_check : {why : Refusal} {j n : ℕ} → checked_of allowance s ≡ Err (not_accepted why j n) → RefusedFor why j
     total_too_large : Accepted → (Totals allowance h s → ⊥) → RefusedFor TotalTooLarge 0
 
 -- what the tests of a list say
@@ -86,43 +84,41 @@ module _ (allowance : ℕ) (h : Sheet) (s : List ℕ) (z : Sized h) where
 
 -- what the walker starts with is what the file check answers
 module _ (allowance : ℕ) (s : List ℕ) where
-  pub was-accepted : (begin_of allowance s).start ≡ start.Accepted → (n : ℕ) × (checked_of allowance s ≡ checked.Accepted n)
+  pub was-accepted : (begin_of allowance s).start ≡ (Ok tt) → (n : ℕ) × (checked_of allowance s ≡ Ok n)
   was-accepted e = go (checked_of allowance s) refl
     where
-      go : (x : Checked) → checked_of allowance s ≡ x → (n : ℕ) × (checked_of allowance s ≡ checked.Accepted n)
-      go (checked.Accepted n) is = (n, is)
-      go (checked.Refused r k n) is = let no = begins_refused allowance s is in let z : ◌≡◌ {A = ℕ} 0 1 = cc in absurd (omega arith)
+      go : (x : Result ℕ NotAccepted) → checked_of allowance s ≡ x → (n : ℕ) × (checked_of allowance s ≡ Ok n)
+      go (Ok n) is = (n, is)
+      go (Err err) is = let no = begins_refused allowance s is in let z : ◌≡◌ {A = ℕ} 0 1 = cc in absurd (omega arith)
 
-  pub was-refused : {why : Refusal} {j : ℕ} → (begin_of allowance s).start ≡ start.Refused why j → (n : ℕ) × (checked_of allowance s ≡ checked.Refused why j n)
+  pub was-refused : {why : Refusal} {j : ℕ} → (begin_of allowance s).start ≡ Err (at_record why j) → (n : ℕ) × (checked_of allowance s ≡ Err (not_accepted why j n))
   was-refused {why} {j} e = go (checked_of allowance s) refl
     where
-      go : (x : Checked) → checked_of allowance s ≡ x → (n : ℕ) × (checked_of allowance s ≡ checked.Refused why j n)
-      go (checked.Accepted n) is = let (f, at, count, told) = begins allowance s is in let z : ◌≡◌ {A = ℕ} 0 1 = cc in absurd (omega arith)
-      go (checked.Refused r k n) is =
+      go : (x : Result ℕ NotAccepted) → checked_of allowance s ≡ x → (n : ℕ) × (checked_of allowance s ≡ Err (not_accepted why j n))
+      go (Ok n) is = let (f, at, count, told) = begins allowance s is in let z : ◌≡◌ {A = ℕ} 0 1 = cc in absurd (omega arith)
+      go (Err err) is =
           let no = begins_refused allowance s is in
-          let same_why : r ≡ why = cc in
-          let same_record : k ≡ j = cc in
-          (n, rw (← same_why, ← same_record) is)
+          let same = refused_same (sym no ∙ e) in
+          (err.records, rw (← same.0, ← same.1) is)
 
 module _ (allowance : ℕ) (h : Sheet) (s : List ℕ) (z : Sized h) where
-  pub refused_for : {why : Refusal} {j : ℕ} → (added_of allowance h s).answer ≡ answer.Refused why j → RefusedFor allowance h s why j
+  pub refused_for : {why : Refusal} {j : ℕ} → (added_of allowance h s).0 ≡ Err (at_record why j) → RefusedFor allowance h s why j
   refused_for {why} {j} e = go (step allowance h s) e
     where
-      go : {a : Added} → Step allowance h s a → a.answer ≡ answer.Refused why j → RefusedFor allowance h s why j
+      go : {a : Added} → Step allowance h s a → a.0 ≡ Err (at_record why j) → RefusedFor allowance h s why j
       go (by_check_lem {r} {k} is) e =
-          let same_why : r ≡ why = cc in
-          let same_record : k ≡ j = cc in
-          file_check ((was-refused allowance s is).1 ∙ (λ i. checked.Refused (same_why i) (same_record i) (was-refused allowance s is).0))
+          let same = refused_same e in
+          let (n, told) = was-refused allowance s is in
+          rw (← same.0, ← same.1) (file_check told)
       go (by_total is over) e =
-          let same_why : TotalTooLarge ≡ why = cc in
-          let same_record : 0 ≡ j = cc in
-          rw (← same_why, ← same_record) (total_too_large (was-accepted allowance s is) (λ f. let fits = fit_totals allowance h s z f in let z : ◌≡◌ {A = ℕ} 0 1 = cc in omega arith))
+          let same = refused_same e in
+          rw (← same.0, ← same.1) (total_too_large (was-accepted allowance s is) (λ f. let fits = fit_totals allowance h s z f in let z : ◌≡◌ {A = ℕ} 0 1 = cc in omega arith))
       go (is_added is fits) e = let z : ◌≡◌ {A = ℕ} 0 1 = cc in absurd (omega arith)
 
-  pub for_refused : {why : Refusal} {j : ℕ} → RefusedFor allowance h s why j → (added_of allowance h s).answer ≡ answer.Refused why j
+  pub for_refused : {why : Refusal} {j : ℕ} → RefusedFor allowance h s why j → (added_of allowance h s).0 ≡ Err (at_record why j)
   for_refused r = go (step allowance h s) r
     where
-      go : {a : Added} {why : Refusal} {j : ℕ} → Step allowance h s a → RefusedFor allowance h s why j → a.answer ≡ answer.Refused why j
+      go : {a : Added} {why : Refusal} {j : ℕ} → Step allowance h s a → RefusedFor allowance h s why j → a.0 ≡ Err (at_record why j)
       go (by_check_lem is) (file_check e) = let told = begins_refused allowance s e in cc
       go (by_check_lem is) (total_too_large (n, e) over) = let (f, at, count, told) = begins allowance s e in let z : ◌≡◌ {A = ℕ} 0 1 = cc in absurd (omega arith)
       go (by_total is over) (file_check e) = let told = begins_refused allowance s e in let z : ◌≡◌ {A = ℕ} 0 1 = cc in absurd (omega arith)
@@ -130,18 +126,18 @@ module _ (allowance : ℕ) (h : Sheet) (s : List ℕ) (z : Sized h) where
       go (is_added is fits) (file_check e) = let told = begins_refused allowance s e in let z : ◌≡◌ {A = ℕ} 0 1 = cc in absurd (omega arith)
       go (is_added is fits) (total_too_large ok over) = absurd (over (totals-fit allowance h s z fits))
 
-  pub added_for : (added_of allowance h s).answer ≡ answer.Added → Accepted allowance h s × Totals allowance h s
+  pub added_for : (added_of allowance h s).0 ≡ (Ok tt) → Accepted allowance h s × Totals allowance h s
   added_for e = go (step allowance h s) e
     where
-      go : {a : Added} → Step allowance h s a → a.answer ≡ answer.Added → Accepted allowance h s × Totals allowance h s
+      go : {a : Added} → Step allowance h s a → a.0 ≡ (Ok tt) → Accepted allowance h s × Totals allowance h s
       go (by_check_lem is) e = let z : ◌≡◌ {A = ℕ} 0 1 = cc in absurd (omega arith)
       go (by_total is over) e = let z : ◌≡◌ {A = ℕ} 0 1 = cc in absurd (omega arith)
       go (is_added is fits) e = (was-accepted allowance s is, totals-fit allowance h s z fits)
 
-  pub for_added : Accepted allowance h s × Totals allowance h s → added_of allowance h s ≡ record { answer = answer.Added; sheet = grown_by h (tally_in allowance s) }
+  pub for_added : Accepted allowance h s × Totals allowance h s → added_of allowance h s ≡ (Ok tt, grown_by h (tally_in allowance s))
   for_added ((n, e), f) = go (step allowance h s)
     where
-      go : {a : Added} → Step allowance h s a → a ≡ record { answer = answer.Added; sheet = grown_by h (tally_in allowance s) }
+      go : {a : Added} → Step allowance h s a → a ≡ (Ok tt, grown_by h (tally_in allowance s))
       go (by_check_lem is) = let (f, at, count, told) = begins allowance s e in let z : ◌≡◌ {A = ℕ} 0 1 = cc in absurd (omega arith)
       go (by_total is over) = let fits = fit_totals allowance h s z f in let z : ◌≡◌ {A = ℕ} 0 1 = cc in absurd (omega arith)
       go (is_added is fits) = refl

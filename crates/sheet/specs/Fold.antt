@@ -1,5 +1,7 @@
 -- Many files: a fold of the sheet over them, and which of them were taken.
-use Rattle.std.specs.Prelude.{ℕ, ◌+◌, ◌≡◌, List, [], ◌∷◌, ◌⊎◌, ℤ}
+use Rattle.std.specs.Prelude.{Result, Ok, Err, ℕ, ◌+◌, ◌≡◌, List, [], ◌∷◌, ◌⊎◌, ℤ}
+use Rattle.refusal.specs.Refused.{at_record}
+use Rattle.refusal.specs.declared.Refused.{Refused}
 use Rattle.refusal.specs.declared.Refusal.TheVariants.{TotalTooLarge}
 use Rattle.le.specs.Le.{Bytes}
 use Rattle.column.specs.declared.Axis.{Axis}
@@ -8,29 +10,27 @@ use Rattle.sheet_count.specs.File.{point_at, class_at, return_at}
 use Rattle.sheet_count.specs.Totals.{count_of}
 use Rattle.sheet_count.specs.Theorems.{of, Among}
 use Rattle.sheet.specs.declared.Sheet.{Sheet}
-use Rattle.sheet.specs.declared.Answer.{Answer}
-use Rattle.sheet.specs.declared.Answer.TheVariants.{Added, Refused}
 use Rattle.sheet.specs.Sheet.{added_of}
 
 module _ (allowance : ℕ) where
   -- the sheet after some files
   abbrev pub after : Sheet → List (List ℕ) → Sheet
   after h [] = h
-  after h (s ∷ files) = after (added_of allowance h s).sheet files
+  after h (s ∷ files) = after (added_of allowance h s).1 files
 
   -- those of them that were added
-  abbrev pub taken_by : Answer → List ℕ → List (List ℕ) → List (List ℕ)
-  taken_by Added s files = s ∷ files
-  taken_by (Refused r k) s files = files
+  abbrev pub taken_by : Result Unit Refused → List ℕ → List (List ℕ) → List (List ℕ)
+  taken_by (Ok tt) s files = s ∷ files
+  taken_by (Err err) s files = files
 
   abbrev pub taken : Sheet → List (List ℕ) → List (List ℕ)
   taken h [] = []
-  taken h (s ∷ files) = taken_by (added_of allowance h s).answer s (taken (added_of allowance h s).sheet files)
+  taken h (s ∷ files) = taken_by (added_of allowance h s).0 s (taken (added_of allowance h s).1 files)
 
   -- none of them is refused with 50
   abbrev pub NoneTooLarge : Sheet → List (List ℕ) → Type 0
   NoneTooLarge h [] = Unit
-  NoneTooLarge h (s ∷ files) = ((added_of allowance h s).answer ≡ Refused TotalTooLarge 0 → ⊥) × NoneTooLarge (added_of allowance h s).sheet files
+  NoneTooLarge h (s ∷ files) = ((added_of allowance h s).0 ≡ Err (at_record TotalTooLarge 0) → ⊥) × NoneTooLarge (added_of allowance h s).1 files
 
   -- a file's points, and how many of them have class k or return number k
   abbrev pub points_of : List ℕ → ℕ

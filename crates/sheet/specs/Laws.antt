@@ -1,12 +1,12 @@
 -- Laws of totals: of a list of them, one after the other.
-use Rattle.std.specs.Prelude.{ℕ, ◌+◌, ◌^◌, ◌≤◌, ◌<◌, ◌≡◌, true, false, ◌&&◌, List, [], ◌∷◌, ◌++◌, length, take, drop, set, get_or}
+use Rattle.std.specs.Prelude.{Ok, Err, ℕ, ◌+◌, ◌^◌, ◌≤◌, ◌<◌, ◌≡◌, true, false, ◌&&◌, List, [], ◌∷◌, ◌++◌, length, take, drop, set, get_or}
+use Rattle.refusal.specs.Refused.{at_record}
 use Rattle.std.proofs.Common.{ap, add-one, arith, ltb-true, ltb-false, lt-ltb, le-ltb, take-suc-set, drop-set-lt, drop_of_length-le}
 use Rattle.std.proofs.Math.Bool.{and-eq-true_iff}
 use Rattle.std.proofs.Math.Seq.{drop-cons, append_snoc}
 use Rattle.refusal.specs.declared.Refusal.TheVariants.{TotalTooLarge}
 use Rattle.sheet_count.specs.declared.Tally.{Tally}
 use Rattle.sheet.specs.declared.Sheet.{Sheet}
-use Rattle.sheet.specs.declared.Answer.TheVariants as answer
 use Rattle.sheet.specs.Sheet.{fits_in, all_fit, totals_fit, sums, grown_by, added_to}
 
 -- what the test says
@@ -74,10 +74,10 @@ totals_say h t e =
 
 -- and what it leads to
 module _ (h : Sheet) (t : Tally) where
-  pub all_added : totals_fit h t ≡ true → added_to h t ≡ record { answer = answer.Added; sheet = grown_by h t }
+  pub all_added : totals_fit h t ≡ true → added_to h t ≡ (Ok tt, grown_by h t)
   unfolding added_to
   all_added e = rw e
 
-  pub too_large : totals_fit h t ≡ false → added_to h t ≡ record { answer = answer.Refused TotalTooLarge 0; sheet = h }
+  pub too_large : totals_fit h t ≡ false → added_to h t ≡ (Err (at_record TotalTooLarge 0), h)
   unfolding added_to
   too_large e = rw e

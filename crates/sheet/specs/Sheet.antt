@@ -1,17 +1,14 @@
 -- The site sheet: document 02, No. 9, "one sheet for many files: points for each class, for each return number including zero, smallest and
 -- largest X, Y and Z as the stored whole numbers, and totals".
-use Rattle.std.specs.Prelude.{ℕ, ◌+◌, ◌^◌, Bool, true, cond, ◌&&◌, List, [], ◌∷◌, ltb, replicate}
+use Rattle.std.specs.Prelude.{Option, Some, None, Result, Ok, Err, ℕ, ◌+◌, ◌^◌, Bool, true, cond, ◌&&◌, List, [], ◌∷◌, ltb, replicate}
+use Rattle.refusal.specs.Refused.{at_record}
+use Rattle.sheet_count.specs.declared.Extent.{Extent}
+use Rattle.refusal.specs.declared.Refused.{Refused}
 use Rattle.refusal.specs.declared.Refusal.TheVariants.{TotalTooLarge}
-use Rattle.walker.specs.declared.Start.{Start}
-use Rattle.walker.specs.declared.Start.TheVariants as start
-use Rattle.sheet_count.specs.declared.Bounds.{Bounds}
-use Rattle.sheet_count.specs.declared.Bounds.TheVariants.{None, Are}
 use Rattle.sheet_count.specs.declared.Tally.{Tally}
 use Rattle.sheet_count.specs.Count.{both_extents}
 use Rattle.sheet_count.specs.File.{counted_of}
 use Rattle.sheet.specs.declared.Sheet.{Sheet}
-use Rattle.sheet.specs.declared.Answer.TheVariants as answer
-use Rattle.sheet.specs.declared.Added.{Added}
 
 -- of no files
 unfoldable pub empty_sheet : Sheet
@@ -37,10 +34,10 @@ sums (x ∷ totals) [] = []
 sums (x ∷ totals) (y ∷ more) = (x + y) ∷ sums totals more
 
 -- smallest and largest of all; no points have none
-abbrev pub both_bounds : Bounds → Bounds → Bounds
+abbrev pub both_bounds : Option Extent → Option Extent → Option Extent
 both_bounds None b = b
-both_bounds (Are x) None = Are x
-both_bounds (Are x) (Are y) = Are (both_extents x y)
+both_bounds (Some x) None = Some x
+both_bounds (Some x) (Some y) = Some (both_extents x y)
 
 -- the sheet with the counts of a file more
 unfoldable pub grown_by : Sheet → Tally → Sheet
@@ -53,15 +50,18 @@ grown_by h t =
       returns = sums h.returns t.returns;
     }
 
+-- the answer, and the sheet after it
+abbrev pub Added : Type 0
+Added = Result Unit Refused × Sheet
+
 unfoldable pub added_to : Sheet → Tally → Added
 added_to h t =
-    cond (totals_fit h t) (record { answer = answer.Added; sheet = grown_by h t })
-    (record { answer = answer.Refused TotalTooLarge 0; sheet = h })
+    cond (totals_fit h t) (Ok tt, grown_by h t) (Err (at_record TotalTooLarge 0), h)
 
 -- "Refusals: the file's own, and a total over 2^64−1"; "A refused file .. adds nothing"
-abbrev pub added_by : Sheet → Tally → Start → Added
-added_by h t start.Accepted = added_to h t
-added_by h t (start.Refused r k) = record { answer = answer.Refused r k; sheet = h }
+abbrev pub added_by : Sheet → Result Tally Refused → Added
+added_by h (Ok t) = added_to h t
+added_by h (Err err) = (Err err, h)
 
 unfoldable pub added_of : ℕ → Sheet → List ℕ → Added
-added_of allowance h s = let c = counted_of allowance s in added_by h c.tally c.start
+added_of allowance h s = added_by h (counted_of allowance s)

@@ -1,6 +1,7 @@
 -- What the sheet is worth: document 02, No. 9. `after` is the sheet after some files, one added after the other, and `taken` those of them that
 -- were added (Fold.antt). A file is bytes, as its type has it.
-use Rattle.std.specs.Prelude.{ℕ, ◌<◌, ◌≡◌, List, ◌↔◌}
+use Rattle.std.specs.Prelude.{Some, None, Ok, Err, ℕ, ◌<◌, ◌≡◌, List, ◌↔◌}
+use Rattle.refusal.specs.Refused.{at_record}
 use Rattle.std.proofs.Math.Path.{refl}
 use Rattle.std.proofs.Common.{ap, arith}
 use Rattle.std.proofs.Math.ListN.{get_or}
@@ -8,14 +9,11 @@ use Rattle.std.proofs.lemmas.List.{get_or-replicate}
 use Rattle.refusal.specs.declared.Refusal.{Refusal}
 use Rattle.column.specs.declared.Axis.{Axis}
 use Rattle.sheet_count.specs.declared.Extent.{Extent}
-use Rattle.sheet_count.specs.declared.Bounds.TheVariants.{None, Are}
 use Rattle.sheet_count.specs.Totals.{total}
 use Rattle.sheet_count.specs.Spans.{Spans}
 use Rattle.sheet_count.specs.Theorems.{on}
 use Rattle.sheet.specs.declared.Sheet.{Sheet}
-use Rattle.sheet.specs.declared.Answer.TheVariants.{Added, Refused}
-use Rattle.sheet.specs.declared.Added as added
-use Rattle.sheet.specs.Sheet.{empty_sheet, added_of}
+use Rattle.sheet.specs.Sheet.{Added, empty_sheet, added_of}
 use Rattle.sheet.specs.Fold.{after, taken, points_of, of_class, of_return, InFiles, sum_over, AllBytes, NoneTooLarge, Order}
 use Rattle.sheet.specs.Steps.{Step, by_check_lem, by_total, is_added, step, Sized, empty-sized}
 use Rattle.sheet.specs.Folded.{shares_from, empty_balanced, balanced, bounded_all, none_exactly, spans_on}
@@ -63,28 +61,28 @@ module _ (allowance : ℕ) (files : List (List ℕ)) where
 
   -- "smallest and largest X, Y and Z as the stored whole numbers": on each axis one of all points has the smallest, one the largest, and
   -- none is beyond them.
-  pub bounds-span : {e : Extent} → sheet.bounds ≡ Are e → (a : Axis) → Spans (InFiles allowance a on_it) (on a e)
+  pub bounds-span : {e : Extent} → sheet.bounds ≡ Some e → (a : Axis) → Spans (InFiles allowance a on_it) (on a e)
   bounds-span is a = spans_on (λ a z. InFiles allowance a on_it z) sheet.bounds sheet.points (bounded_all allowance files) is a
 
 -- Of one file more, on any sheet that has a number for each class and each return number:
 module _ (allowance : ℕ) (h : Sheet) (z : Sized h) (s : List ℕ) where
   -- "A refused file is named with its refusal and adds nothing."
-  pub refused_adds_nothing : {why : Refusal} {j : ℕ} → (added_of allowance h s).answer ≡ Refused why j → (added_of allowance h s).sheet ≡ h
+  pub refused_adds_nothing : {why : Refusal} {j : ℕ} → (added_of allowance h s).0 ≡ Err (at_record why j) → (added_of allowance h s).1 ≡ h
   refused_adds_nothing {why} {j} e = go (step allowance h s) e
     where
-      go : {a : added.Added} → Step allowance h s a → a.answer ≡ Refused why j → a.sheet ≡ h
+      go : {a : Added} → Step allowance h s a → a.0 ≡ Err (at_record why j) → a.1 ≡ h
       go (by_check_lem is) e = refl
       go (by_total is over) e = refl
       go (is_added is fits) e = let z : ◌≡◌ {A = ℕ} 0 1 = cc in absurd (omega arith)
 
   -- "Refusals: the file's own, and a total over 2^64−1": refused with each exactly when it is the first to hold in that order (`RefusedFor`,
   -- in Exact.antt),
-  pub refused_exactly : (why : Refusal) (j : ℕ) → ((added_of allowance h s).answer ≡ Refused why j) ↔ RefusedFor allowance h s why j
+  pub refused_exactly : (why : Refusal) (j : ℕ) → ((added_of allowance h s).0 ≡ Err (at_record why j)) ↔ RefusedFor allowance h s why j
   refused_exactly why j = (refused_for allowance h s z, for_refused allowance h s z)
 
   -- and added exactly when neither does.
-  pub added_exactly : ((added_of allowance h s).answer ≡ Added) ↔ (Accepted allowance h s × Totals allowance h s)
-  added_exactly = (added_for allowance h s z, λ both. ap (λ (a : added.Added). a.answer) (for_added allowance h s z both))
+  pub added_exactly : ((added_of allowance h s).0 ≡ (Ok tt)) ↔ (Accepted allowance h s × Totals allowance h s)
+  added_exactly = (added_for allowance h s z, λ both. ap (λ (a : Added). a.0) (for_added allowance h s z both))
 
 -- The order of the files does not matter where none is refused for a total: in another order none is either, and the sheet is the same.
 pub order_free : (allowance : ℕ) {files others : List (List ℕ)} → Order files others → NoneTooLarge allowance empty_sheet files → (after allowance empty_sheet files ≡ after allowance empty_sheet others) × NoneTooLarge allowance empty_sheet others

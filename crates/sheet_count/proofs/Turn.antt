@@ -1,4 +1,5 @@
 -- One record more: a turn of the count.
+use Rattle.std.specs.Prelude.{Some, None}
 use Prim.Native.Nat.{ℕ, zero, suc, ◌+◌, ◌-◌, ◌*◌, ◌≤◌, ◌<◌}
 use mathlib.Core.Path.{◌≡◌, refl, ap, sym, ◌∙◌}
 use mathlib.Core.Bool.{Bool}
@@ -8,7 +9,6 @@ use native.Mathlib.Numerals.{add-one}
 use native.Mathlib.Omega.{arith}
 use lib.ListN.{length, take, drop, set, get_or, replicate}
 use Rattle.sheet_count.specs.declared.Extent.{Extent}
-use Rattle.sheet_count.specs.declared.Bounds.TheVariants.{None, Are}
 use Rattle.sheet_count.specs.Count.{counts_of, bounds_of, both_extents, extents_of, class_in, return_in, extent_in, part_at, tallied_at}
 use Rattle.sheet_count.specs.Laws.{none-counted, one-counted, length_counts, most-counted}
 
@@ -80,11 +80,11 @@ module _ (e : Bool) (first stride n : ℕ) (s : List ℕ) where
           }
 
   -- all are counted
-  some-bounds : (k : ℕ) → 0 < k → Are (extents_of extent k) ≡ bounds_of extent k
+  some-bounds : (k : ℕ) → 0 < k → Some (extents_of extent k) ≡ bounds_of extent k
   some-bounds zero h = absurd (omega arith)
   some-bounds (suc k) h = refl
 
-  pub done : {classes returns : List ℕ} {x : Extent} {at i : ℕ} → Counting classes returns x at i → 0 < n → n ≤ i → record { points = n; classes = classes; returns = returns; bounds = Are x } ≡ tallied_at e first stride n s
+  pub done : {classes returns : List ℕ} {x : Extent} {at i : ℕ} → Counting classes returns x at i → 0 < n → n ≤ i → record { points = n; classes = classes; returns = returns; bounds = Some x } ≡ tallied_at e first stride n s
   unfolding tallied_at
   done {i = i} inv some h =
       let all : i ≡ n = omega (arith, inv.below) in
@@ -92,7 +92,7 @@ module _ (e : Bool) (first stride n : ℕ) (s : List ℕ) where
         points = n;
         classes = (inv.class_counts ∙ ap (counts_of 256 class) all) j;
         returns = (inv.return_counts ∙ ap (counts_of 16 number) all) j;
-        bounds = (ap Are (inv.extents ∙ ap (extents_of extent) all) ∙ some-bounds n some) j;
+        bounds = (ap Some (inv.extents ∙ ap (extents_of extent) all) ∙ some-bounds n some) j;
       }
 
   pub nothing : {classes returns : List ℕ} → n ≡ 0 → classes ≡ replicate 256 0 → returns ≡ replicate 16 0 → record { points = 0; classes = classes; returns = returns; bounds = None } ≡ tallied_at e first stride n s

@@ -1,16 +1,13 @@
 -- One file's counts: document 02, No. 9, "points for each class, for each return number including zero, smallest and largest X, Y and Z as the
 -- stored whole numbers", "counted from the records".
-use Rattle.std.specs.Prelude.{ℕ, zero, suc, ◌+◌, ◌*◌, Bool, cond, List, ℤ, take, drop, set, get_or, replicate}
-use Rattle.std.specs.Int.Signed.{lt_z}
-use Rattle.std.specs.Int.{w32}
+use Rattle.std.specs.Prelude.{Option, Some, None, ℕ, zero, suc, ◌+◌, ◌*◌, Bool, List, ℤ, take, drop, set, get_or, replicate}
+use Rattle.std.specs.Int.{w32, int_min, int_max}
 use Rattle.std.proofs.Common.{to_z}
 use Rattle.le.specs.Le.{num}
 use Rattle.flags.specs.Readings.{class_of, return_number_of}
 use Rattle.point.specs.Read.{flags_at}
 use Rattle.sheet_count.specs.declared.Range.{Range}
 use Rattle.sheet_count.specs.declared.Extent.{Extent}
-use Rattle.sheet_count.specs.declared.Bounds.{Bounds}
-use Rattle.sheet_count.specs.declared.Bounds.TheVariants.{None, Are}
 use Rattle.sheet_count.specs.declared.Tally.{Tally}
 
 -- one more for number k
@@ -24,10 +21,10 @@ counts_of size rule (suc n) = one_more (counts_of size rule n) (rule n)
 
 -- the smaller and the larger of two numbers
 abbrev pub least_of : ℤ → ℤ → ℤ
-least_of a b = cond (lt_z b a) b a
+least_of = int_min
 
 abbrev pub most_of : ℤ → ℤ → ℤ
-most_of a b = cond (lt_z a b) b a
+most_of = int_max
 
 -- smallest and largest: of one number, and of two ranges together
 abbrev pub only : ℤ → Range
@@ -45,9 +42,9 @@ extents_of rule zero = rule 0
 extents_of rule (suc n) = both_extents (extents_of rule n) (rule n)
 
 -- "With no points at all there are no smallest and largest."
-abbrev pub bounds_of : (ℕ → Extent) → ℕ → Bounds
+abbrev pub bounds_of : (ℕ → Extent) → ℕ → Option Extent
 bounds_of rule zero = None
-bounds_of rule (suc n) = Are (extents_of rule (suc n))
+bounds_of rule (suc n) = Some (extents_of rule (suc n))
 
 -- what a record says: its class and its return number, by whether its format is extended, and its X, Y and Z, each by itself
 abbrev pub class_in : Bool → List ℕ → ℕ

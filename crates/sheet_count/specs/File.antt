@@ -1,5 +1,6 @@
 -- What the counts are of: each point that a walker of the file gives, "counted from the records and never from header sums".
-use Rattle.std.specs.Prelude.{ℕ, ◌+◌, ◌*◌, List, take, drop}
+use Rattle.std.specs.Prelude.{Result, Ok, Err, ℕ, ◌+◌, ◌*◌, List, take, drop}
+use Rattle.refusal.specs.declared.Refused.{Refused}
 use Rattle.format.specs.Fields.{record_bytes}
 use Rattle.flags.specs.Readings.{class_of, return_number_of}
 use Rattle.point.specs.declared.Point.{Point}
@@ -8,7 +9,6 @@ use Rattle.walker.specs.declared.Place.{Place}
 use Rattle.walker.specs.Begin.{begin_of}
 use Rattle.sheet_count.specs.declared.Extent.{Extent}
 use Rattle.sheet_count.specs.declared.Tally.{Tally}
-use Rattle.sheet_count.specs.declared.Counted.{Counted}
 use Rattle.sheet_count.specs.Count.{only, counts_of, bounds_of}
 
 -- the point in record i, from 0, of those before which a walker starts
@@ -25,7 +25,7 @@ return_at p s i = return_number_of (point_at p s i).flags
 abbrev pub extent_at : Place → List ℕ → ℕ → Extent
 extent_at p s i = let q = point_at p s i in record { x = only q.x; y = only q.y; z = only q.z }
 
--- every point counts; where the file check refuses, the walker has none
+-- every point counts
 unfoldable pub tally_of : Place → List ℕ → Tally
 tally_of p s =
     record {
@@ -35,5 +35,10 @@ tally_of p s =
       bounds = bounds_of (extent_at p s) p.count;
     }
 
-unfoldable pub counted_of : ℕ → List ℕ → Counted
-counted_of allowance s = let p = begin_of allowance s in record { start = p.start; tally = tally_of p s }
+-- by what the walker starts with, the file check's answer
+abbrev pub counted_by : Tally → Result Unit Refused → Result Tally Refused
+counted_by t (Ok tt) = Ok t
+counted_by t (Err err) = Err err
+
+unfoldable pub counted_of : ℕ → List ℕ → Result Tally Refused
+counted_of allowance s = let p = begin_of allowance s in counted_by (tally_of p s) p.start

@@ -1,5 +1,6 @@
 -- The bytes of a record that are looked at say what its point says.
-use Rattle.std.specs.Prelude.{ℕ, ◌+◌, ◌*◌, ◌≤◌, ◌≡◌, refl, Bool, List, length, drop}
+use Rattle.std.specs.Prelude.{Result, Ok, Err, ℕ, ◌+◌, ◌*◌, ◌≤◌, ◌≡◌, refl, Bool, List, length, drop}
+use Rattle.rules.specs.declared.NotAccepted.{NotAccepted}
 use Rattle.std.proofs.Math.Path.{ap}
 use Rattle.std.proofs.Common.{sym, ◌∙◌, arith, take-take, to_z}
 use Rattle.std.proofs.Math.ListN.{take}
@@ -11,8 +12,6 @@ use Rattle.format.specs.Fields.{record_bytes}
 use Rattle.format.specs.Laws.{record_sum}
 use Rattle.flags.specs.Readings.{class_of, return_number_of}
 use Rattle.point.specs.Read.{flags_at, point_of}
-use Rattle.rules.specs.declared.Checked.{Checked}
-use Rattle.rules.specs.declared.Checked.TheVariants as checked
 use Rattle.file.specs.Rules.{checked_of}
 use Rattle.walker.specs.declared.Place.{Place}
 use Rattle.walker.specs.Begin.{refused_place, begin_of}
@@ -76,6 +75,6 @@ pub in_file : (allowance : ℕ) (s : List ℕ) → (let p = begin_of allowance s
 unfolding begin_of refused_place
 in_file allowance s = go (checked_of allowance s) refl
   where
-    go : (x : Checked) → checked_of allowance s ≡ x → (let p = begin_of allowance s in p.at + p.count * record_bytes p.format ≤ length s)
-    go (checked.Accepted n) e = let (f, at, count, is) = begins allowance s e in ends allowance s is
-    go (checked.Refused r k n) e = rw e (omega arith)
+    go : (x : Result ℕ NotAccepted) → checked_of allowance s ≡ x → (let p = begin_of allowance s in p.at + p.count * record_bytes p.format ≤ length s)
+    go (Ok n) e = let (f, at, count, is) = begins allowance s e in ends allowance s is
+    go (Err err) e = rw e (omega arith)

@@ -61,11 +61,11 @@ pub record Most (a b m : ℤ) : Type 0 where
   pub one : (m ≡ a) ⊎ (m ≡ b)
 
 pub most : (a b : ℤ) → Most a b (most_of a b)
-most a b = go (lt_z a b) refl
+most a b = go (lt_z b a) refl
   where
-    go : (t : Bool) → lt_z a b ≡ t → Most a b (cond t b a)
-    go true e = record { first = passed a b e; second = ≤ℤ_refl b; one = inr refl }
-    go false e = record { first = ≤ℤ_refl a; second = failed a b e; one = inl refl }
+    go : (t : Bool) → lt_z b a ≡ t → Most a b (cond t a b)
+    go true e = record { first = ≤ℤ_refl a; second = passed b a e; one = inl refl }
+    go false e = record { first = failed b a e; second = ≤ℤ_refl b; one = inr refl }
 
 -- r has the smallest and the largest of the numbers that P holds of
 pub record Spans (P : ℤ → Type 0) (r : Range) : Type 0 where

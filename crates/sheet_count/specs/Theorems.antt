@@ -1,7 +1,7 @@
 -- One file's counts: document 02, No. 9, "points for each class, for each return number including zero, smallest and largest X, Y and Z as the
 -- stored whole numbers", "counted from the records".
+use Rattle.std.specs.Prelude.{Option, Some, None, Ok, ◌≡◌, refl, Bool, true, false, List, ◌⊎◌, ltb, ℤ, get_or, take, drop}
 use Prim.Native.Nat.{ℕ, zero, suc, ◌+◌, ◌*◌, ◌<◌}
-use Rattle.std.specs.Prelude.{◌≡◌, refl, Bool, true, false, List, ◌⊎◌, ltb, ℤ, get_or, take, drop}
 use Rattle.std.proofs.Common.{ap, ◌∙◌, ltb-true, ltb-false}
 use Rattle.std.proofs.Math.Path.{sym, subst}
 use Rattle.std.proofs.Math.Logic.{inl, inr}
@@ -15,12 +15,10 @@ use Rattle.flags.specs.Readings.{class_of, return_number_of}
 use Rattle.point.specs.declared.Point as point
 use Rattle.point.specs.Read.{point_of}
 use Rattle.point.specs.Kind.{new_flags, old_flags}
-use Rattle.header.specs.Judged.{read_of}
+use Rattle.header.specs.Judged.{header_in}
 use Rattle.outline.specs.Outline.{outline_of}
-use Rattle.rules.specs.declared.Checked.TheVariants as checked
 use Rattle.file.specs.Rules.{checked_of}
 use Rattle.walker.specs.declared.Place.{Place}
-use Rattle.walker.specs.declared.Walked.TheVariants.{Point}
 use Rattle.walker.specs.Begin.{first_place, begin_of, walker_of}
 use Rattle.walker.specs.Steps.{answer_of, gives}
 use Rattle.walker.specs.Accepted.{first_of, at_first, ready}
@@ -28,22 +26,20 @@ use Rattle.column.specs.declared.Axis.{Axis}
 use Rattle.column.specs.declared.Axis.TheVariants.{X, Y, Z}
 use Rattle.sheet_count.specs.declared.Range.{Range}
 use Rattle.sheet_count.specs.declared.Extent.{Extent}
-use Rattle.sheet_count.specs.declared.Bounds.{Bounds}
-use Rattle.sheet_count.specs.declared.Bounds.TheVariants.{None, Are}
 use Rattle.sheet_count.specs.Count.{both, both_extents, extents_of, bounds_of}
 use Rattle.sheet_count.specs.File.{point_at, class_at, return_at, extent_at, tally_of}
 use Rattle.sheet_count.specs.Totals.{count_of, total, each-counted, all-counted}
 use Rattle.sheet_count.specs.Spans.{Spans, spans_only, spans_both, spans_same}
 
 -- What is counted is what the walker gives: its answer i, from 0, is point i.
-pub as_walked : (allowance : ℕ) (file : Bor (List ℕ)) {n : ℕ} → checked_of allowance file.now ≡ checked.Accepted n → Bytes file.now → (i : ℕ) → i < (begin_of allowance file.now).count → answer_of i (walker_of allowance file) ≡ Point (point_at (begin_of allowance file.now) file.now i)
+pub as_walked : (allowance : ℕ) (file : Bor (List ℕ)) {n : ℕ} → checked_of allowance file.now ≡ Ok n → Bytes file.now → (i : ℕ) → i < (begin_of allowance file.now).count → answer_of i (walker_of allowance file) ≡ Ok (point_at (begin_of allowance file.now) file.now i)
 unfolding begin_of first_place
 as_walked allowance file {n} accepted bytes i h =
-    let first : begin_of allowance file.now ≡ first_place (outline_of (read_of file.now).header) = rw accepted in
+    let first : begin_of allowance file.now ≡ first_place (outline_of (header_in file.now)) = rw accepted in
     let inside = rw accepted at h in
     ap (answer_of i) (at_first allowance file n accepted)
     ∙ gives i (first_of file) (ready allowance file n accepted bytes) inside
-    ∙ ap (λ (q : Place). Point (point_at q file.now i)) (sym first)
+    ∙ ap (λ (q : Place). Ok (point_at q file.now i)) (sym first)
 
 module _ (p : Place) (s : List ℕ) where
   -- "points for each class", 0 to 255: how many of the points have it;
@@ -101,9 +97,9 @@ Among rule n z = (i : ℕ) × (i < n) × (rule i ≡ z)
 
 -- bounds of n points whose numbers on each axis are those that P holds of: none "with no points at all", and else on each axis one of them
 -- is the smallest and one the largest
-abbrev pub Bounded : Bounds → ℕ → (Axis → ℤ → Type 0) → Type 0
+abbrev pub Bounded : Option Extent → ℕ → (Axis → ℤ → Type 0) → Type 0
 Bounded None n P = (n ≡ 0) × ((a : Axis) (z : ℤ) → P a z → ⊥)
-Bounded (Are e) n P = (0 < n) × ((a : Axis) → Spans (P a) (on a e))
+Bounded (Some e) n P = (0 < n) × ((a : Axis) → Spans (P a) (on a e))
 
 pub on_both : (a : Axis) (e g : Extent) → on a (both_extents e g) ≡ both (on a e) (on a g)
 unfolding both_extents

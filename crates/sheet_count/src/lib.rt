@@ -2,12 +2,12 @@
 // the records. Added by document 02, No. 9.
 #![tactic(auto)]
 
-ghost use Rattle.std.specs.Prelude.{◌≡◌, ◌+◌, ◌*◌, ◌≤◌, ◌<◌, length, replicate};
-ghost use Rattle.sheet_count.specs.Count.{least_of, most_of, both, both_extents, class_in, return_in, extent_in, tallied_at};
+ghost use Rattle.std.specs.Prelude.{◌≡◌, ◌+◌, ◌*◌, ◌≤◌, ◌<◌, length};
+ghost use Rattle.sheet_count.specs.Count.{both, both_extents, class_in, return_in, extent_in, tallied_at};
 ghost use Rattle.sheet_count.specs.File.{counted_of};
 
 use layout::Layout;
-use walker::Start;
+use refusal::Refused;
 
 // The smallest and the largest of some stored numbers.
 #[derive(Clone, Copy)]
@@ -24,45 +24,25 @@ pub struct Extent {
     pub z: Range,
 }
 
-// With no points at all there are none.
-#[derive(Clone, Copy)]
-pub enum Bounds {
-    None,
-    Are(Extent),
-}
-
 // How many points there are, how many of each class and of each return number, 0 too, and their bounds.
 #[derive(Clone, Copy)]
 pub struct Tally {
     pub points: u64,
     pub classes: [u64; 256],
     pub returns: [u64; 16],
-    pub bounds: Bounds,
+    pub bounds: Option<Extent>,
 }
 
-// What the walker of a file starts with, the file check's answer, and the file's counts: none where it is refused.
-#[derive(Clone, Copy)]
-pub struct Counted {
-    pub start: Start,
-    pub tally: Tally,
-}
-
-// The points of a file counted, after the file check.
-pub fn count(file: &[u8], allowance: u64) -> Counted
+// The points of a file counted. Refused as the file check refuses.
+pub fn count(file: &[u8], allowance: u64) -> Result<Tally, Refused>
     ensures { result ≡ counted_of allowance file.now }
 {
     let begun = walker::begin(file, allowance);
+    begun.start?;
     let format = begun.format;
     let stride = Layout::for_format(format).record_len;
-    let tally = tally_at(
-        file,
-        begun.at,
-        stride,
-        begun.count as usize,
-        format.is_extended,
-    );
-    let start = begun.start;
-    Counted { start, tally }
+    let n = begun.count as usize;
+    Ok(tally_at(file, begun.at, stride, n, format.is_extended))
 }
 
 // n records counted, the first at `first` and each `stride` bytes after the one before it. The part of a record that is read has one
@@ -71,14 +51,14 @@ fn tally_at(s: &[u8], first: usize, stride: usize, n: usize, extended: bool) -> 
     requires { (20 ≤ stride) × (first + n * stride ≤ length s.now) }
     ensures { result ≡ tallied_at extended first stride n s.now }
 {
-    let mut classes = no_classes();
-    let mut returns = no_returns();
+    let mut classes = [0; 256];
+    let mut returns = [0; 16];
     if n == 0 {
         return Tally {
             points: 0,
             classes,
             returns,
-            bounds: Bounds::None,
+            bounds: None,
         };
     }
     let mut extent = extent_in(&s[first..first + 20]);
@@ -86,9 +66,9 @@ fn tally_at(s: &[u8], first: usize, stride: usize, n: usize, extended: bool) -> 
     for i in 0..n {
         let part = &s[at..at + 20];
         let class = class_in(part, extended);
-        classes[class] = classes[class] + 1;
+        classes[class] += 1;
         let number = return_in(part, extended);
-        returns[number] = returns[number] + 1;
+        returns[number] += 1;
         extent = both_extents(extent, extent_in(part));
         at += stride;
     }
@@ -96,22 +76,8 @@ fn tally_at(s: &[u8], first: usize, stride: usize, n: usize, extended: bool) -> 
         points: n as u64,
         classes,
         returns,
-        bounds: Bounds::Are(extent),
+        bounds: Some(extent),
     }
-}
-
-// Nothing counted yet.
-
-fn no_classes() -> [u64; 256]
-    ensures { result ≡ replicate 256 0 }
-{
-    [0; 256]
-}
-
-fn no_returns() -> [u64; 16]
-    ensures { result ≡ replicate 16 0 }
-{
-    [0; 16]
 }
 
 // The class of the point in a record, by whether its format is extended.
@@ -163,19 +129,7 @@ fn both_ranges(a: Range, b: Range) -> Range
     ensures { result ≡ both a b }
 {
     Range {
-        min: least(a.min, b.min),
-        max: most(a.max, b.max),
+        min: a.min.min(b.min),
+        max: a.max.max(b.max),
     }
-}
-
-fn least(a: i32, b: i32) -> i32
-    ensures { result ≡ least_of a b }
-{
-    if b < a { b } else { a }
-}
-
-fn most(a: i32, b: i32) -> i32
-    ensures { result ≡ most_of a b }
-{
-    if a < b { b } else { a }
 }

@@ -14,12 +14,8 @@ pub fn set_bytes(d: &mut [u8], at: usize, v: &[u8])
     if d.len() <= at {
         return;
     }
-    let room = d.len() - at;
-    if v.len() <= room {
-        lent::put(&mut d[at..], v);
-        return;
-    }
-    lent::put(&mut d[at..], &v[..room]);
+    let n = v.len().min(d.len() - at);
+    d[at..at + n].copy_from_slice(&v[..n]);
 }
 
 // Stores the bytes of a number, the lowest first.
@@ -33,37 +29,26 @@ pub fn set_u8(d: &mut [u8], at: usize, x: u8)
 pub fn set_u16(d: &mut [u8], at: usize, x: u16)
     ensures { d.new ≡ sets d.old at (bytes 2 x) }
 {
-    set_bytes(d, at, &le::u16_bytes(x))
+    set_bytes(d, at, &x.to_le_bytes())
 }
 
 pub fn set_u32(d: &mut [u8], at: usize, x: u32)
     ensures { d.new ≡ sets d.old at (bytes 4 x) }
 {
-    set_bytes(d, at, &le::u32_bytes(x))
+    set_bytes(d, at, &x.to_le_bytes())
 }
 
 pub fn set_u64(d: &mut [u8], at: usize, x: u64)
     ensures { d.new ≡ sets d.old at (bytes 8 x) }
 {
-    set_bytes(d, at, &le::u64_bytes(x))
+    set_bytes(d, at, &x.to_le_bytes())
 }
 
-// The bytes of `s` from `at` on, copied; one past the end counts as 0.
-
-pub fn bytes16(s: &[u8], at: usize) -> [u8; 16]
-    ensures { result ≡ window 16 at s.now }
+// The `N` bytes of `s` from `at` on, copied; one past the end counts as 0.
+pub fn bytes_at<const N: usize>(s: &[u8], at: usize) -> [u8; N]
+    ensures { result ≡ window N at s.now }
 {
-    let mut a = [0u8; 16];
-    if at < s.len() {
-        set_bytes(&mut a, 0, &s[at..]);
-    }
-    a
-}
-
-pub fn bytes32(s: &[u8], at: usize) -> [u8; 32]
-    ensures { result ≡ window 32 at s.now }
-{
-    let mut a = [0u8; 32];
+    let mut a = [0u8; N];
     if at < s.len() {
         set_bytes(&mut a, 0, &s[at..]);
     }

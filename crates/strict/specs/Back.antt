@@ -1,5 +1,5 @@
 -- Old flags brought up, and down again; and that an old point is judged as the one that it is brought up to.
-use Rattle.std.specs.Prelude.{ℕ, ◌/◌, ◌%◌, ◌<◌, ◌≡◌, refl, Bool, true, false, cond, List, ◌∷◌, ◌++◌, ◌↔◌, ℤ, pos, replicate}
+use Rattle.std.specs.Prelude.{Ok, Err, ℕ, ◌/◌, ◌%◌, ◌<◌, ◌≡◌, refl, Bool, true, false, cond, List, ◌∷◌, ◌++◌, ◌↔◌, ℤ, pos, replicate}
 use Rattle.std.proofs.Math.Path.{ap, sym, subst}
 use Rattle.std.proofs.Common.{◌∙◌, eqb-true, of_z, to_z}
 use native.Mathlib.Omega.{arith}
@@ -14,7 +14,6 @@ use Rattle.flags.specs.declared.Flags.{Flags}
 use Rattle.flags.specs.declared.Flags.TheVariants.{TwoByte, ThreeByte}
 use Rattle.flags.specs.declared.ScanDirection.{ScanDirection}
 use Rattle.flags.specs.declared.ScanDirection.TheVariants.{RightToLeft, LeftToRight}
-use Rattle.flags.specs.declared.TwoBytes.TheVariants.{Bytes}
 use Rattle.flags.specs.Readings.{bit, class_of}
 use Rattle.flags.specs.Bytes.{old_first, old_second, two_bytes_of}
 use Rattle.flags.specs.Theorems.{old-first-whole, old_second_whole, readings_agree}
@@ -26,7 +25,6 @@ use Rattle.point.specs.Read.{point_of}
 use Rattle.point.specs.Kind.{old_flags, old_angle, no_nir}
 use Rattle.point_write.specs.Held.{FlagsHeld}
 use Rattle.pairs.specs.Sound.{not-up}
-use Rattle.strict.specs.declared.Fit.TheVariants.{Fits, Refused}
 use Rattle.strict.specs.Fit.{first_of, overlap_goes, readings_fit, flags_fit_of, rank_fits, angle_fit_of, fit_of}
 use Rattle.strict.specs.Upgrade.{new_first, new_second, upgraded_flags, upgraded_old, upgraded_by, upgraded_of}
 use Rattle.strict.specs.Shown.{Shown, nir_number, Same, Within90}
@@ -45,11 +43,11 @@ same_bit false true e = let z : ◌≡◌ {A = ℕ} 0 1 = cc in absurd (omega ar
 same_bit false false e = refl
 
 -- two bytes that show extended flags whole are what the plain conversion gives
-pub shown-bytes : (a b c x y : ℕ) → x < 256 → y < 256 → Shown (ThreeByte a b c) (TwoByte x y) → two_bytes_of (ThreeByte a b c) ≡ Bytes x y
+pub shown-bytes : (a b c x y : ℕ) → x < 256 → y < 256 → Shown (ThreeByte a b c) (TwoByte x y) → two_bytes_of (ThreeByte a b c) ≡ Ok (x, y)
 shown-bytes a b c x y h l s =
     bytes-of_fitting a b c (shown-fits (ThreeByte a b c) x y s)
-    ∙ sym (λ i. Bytes (old_first (s.return-number i) (s.number-of-returns i) (same_bit (bit 6 x) (bit 6 b) s.direction i) (s.edge i)) (old_second (s.class i) (s.synthetic i) (s.key_point i) (s.withheld i)))
-    ∙ sym (λ i. Bytes (old-first-whole x y h i) (old_second_whole x y l i))
+    ∙ sym (λ i. Ok ((old_first (s.return-number i) (s.number-of-returns i) (same_bit (bit 6 x) (bit 6 b) s.direction i) (s.edge i)), (old_second (s.class i) (s.synthetic i) (s.key_point i) (s.withheld i))))
+    ∙ sym (λ i. Ok ((old-first-whole x y h i), (old_second_whole x y l i)))
 
 module _ (a b : ℕ) where
   first_made : NewFirst (new_first (a % 8) (a / 8 % 8)) (a % 8) (a / 8 % 8)
@@ -82,7 +80,7 @@ module _ (a b : ℕ) where
       rw (x.return-number, x.number-of-returns, y.channel, y.overlap, goes_alike)
 
   -- which fit exactly when their class is not 28
-  flags_fit : (flags_fit_of (TwoByte a b) ≡ Fits) ↔ (class_of (TwoByte a b) ≡ 28 → ⊥)
+  flags_fit : (flags_fit_of (TwoByte a b) ≡ Ok tt) ↔ (class_of (TwoByte a b) ≡ 28 → ⊥)
   unfolding flags_fit_of
   flags_fit = (
     λ fits is. not-up (sym (never_at_28 (b % 32) is (eqb (b % 16) 12)) ∙ (fits_fitting _ _ _ _ _ fits).goes),
@@ -103,7 +101,7 @@ module _ (a b : ℕ) where
     unfolding upgraded_old fit_of
     old-judged = λ i. first_of ((flags_judged ∙ ap flags_fit_of (sym two)) i) (first_of (sym (none-fits p.nir none) i) (scaled_alike p.scan_angle i))
 
-    pub old-fits : (fit_of p ≡ Fits) ↔ ((class_of p.flags ≡ 28 → ⊥) × Within90 p)
+    pub old-fits : (fit_of p ≡ Ok tt) ↔ ((class_of p.flags ≡ 28 → ⊥) × Within90 p)
     old-fits = (
       λ fits.
           let fit = fit_parts p fits in
@@ -133,7 +131,7 @@ module _ (a b : ℕ) where
           overlap_standard = sym y.overlap;
         }
 
-    pub upgraded-bytes : a < 256 → b < 256 → two_bytes_of (upgraded_flags (TwoByte a b)) ≡ Bytes a b
+    pub upgraded-bytes : a < 256 → b < 256 → two_bytes_of (upgraded_flags (TwoByte a b)) ≡ Ok (a, b)
     unfolding upgraded_flags
     upgraded-bytes h l = shown-bytes _ _ _ a b h l upgraded-shown
 
@@ -170,7 +168,7 @@ module _ (old : Format) (is_old : old.is_extended ≡ false) (without : old.has_
   pub record_none : nir_number (point_of old t).nir ≡ 0
   record_none = ap nir_number (no_nir old t without)
 
-  pub record_fits : (fit_of (point_of old t) ≡ Fits) ↔ ((class_of (point_of old t).flags ≡ 28 → ⊥) × Within90 (point_of old t))
+  pub record_fits : (fit_of (point_of old t) ≡ Ok tt) ↔ ((class_of (point_of old t).flags ≡ 28 → ⊥) × Within90 (point_of old t))
   record_fits = old-fits (num 1 14 t) (num 1 15 t) (point_of old t) (old_flags old t is_old) record_none
 
   pub record_same : (class_of (point_of old t).flags ≡ 28 → ⊥) → Same (upgraded_of (point_of old t)) (point_of old t)
@@ -190,11 +188,11 @@ module _ (old : Format) (is_old : old.is_extended ≡ false) (without : old.has_
   rank_104 : (point_of old ranked).scan_angle ≡ Rank (pos 104)
   rank_104 = old_angle old ranked is_old ∙ ap (λ (b : ℕ). Rank (to_z w8 b)) (num-one ranked 16)
 
-  pub ranked-refused : fit_of (upgraded_of (point_of old ranked)) ≡ Refused (Angle 17333)
+  pub ranked-refused : fit_of (upgraded_of (point_of old ranked)) ≡ Err (Angle 17333)
   unfolding fit_of flags_fit_of readings_fit overlap_goes angle_fit_of rank_fits
   ranked-refused =
       upgraded-judged (point_of old ranked) (record_none old is_old without ranked)
-      ∙ rw (flags_0, no_nir old ranked without, rank_104) (ap (λ (n : ℤ). Refused (Angle (of_z w16 n))) (scaled-size (pos 104)))
+      ∙ rw (flags_0, no_nir old ranked without, rank_104) (ap (λ (n : ℤ). Err (Angle (of_z w16 n))) (scaled-size (pos 104)))
 
   pub ranked_shows : Same (upgraded_of (point_of old ranked)) (point_of old ranked)
   ranked_shows = record_same old is_old without ranked (λ is. let zero : 0 ≡ 28 = ap class_of (sym flags_0) ∙ is in omega arith)

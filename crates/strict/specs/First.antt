@@ -1,5 +1,5 @@
 -- Which field a refusal names: the first that does not fit, in document 01's order.
-use Rattle.std.specs.Prelude.{ℕ, ◌≤◌, ◌<◌, ◌≡◌, false, eqb, ltb}
+use Rattle.std.specs.Prelude.{Option, Some, None, Result, Ok, Err, ℕ, ◌≤◌, ◌<◌, ◌≡◌, false, eqb, ltb}
 use Rattle.std.proofs.Math.Path.{refl}
 use Rattle.std.proofs.Common.{ap, sym, subst, ◌∙◌, arith, of_z}
 use borrow.Author.Tests.{ltb-true, ltb-false, eqb-false}
@@ -8,11 +8,7 @@ use Rattle.refusal.specs.declared.Refusal.{Refusal}
 use Rattle.refusal.specs.declared.Refusal.TheVariants.{ReturnNumber, NumberOfReturns, Class, Channel, Overlap, Nir, Angle}
 use Rattle.flags.specs.Readings.{return_number_of, number_of_returns_of, class_of, channel_of, overlap_of}
 use Rattle.angle.specs.Angle.{to_scaled}
-use Rattle.point.specs.declared.MaybeNir.{MaybeNir}
-use Rattle.point.specs.declared.MaybeNir.TheVariants.{Some, None}
 use Rattle.point.specs.declared.Point.{Point}
-use Rattle.strict.specs.declared.Fit.{Fit}
-use Rattle.strict.specs.declared.Fit.TheVariants.{Fits, Refused}
 use Rattle.strict.specs.Fit.{first_of, overlap_goes, readings_fit, flags_fit_of, nir_fit_of, rank_fits, exact_rank, angle_fit_of, fit_of}
 use Rattle.strict.specs.Shown.{nir_number}
 use Rattle.strict.specs.Laws.{not-refused, Fitting, fits_fitting, past, last}
@@ -45,7 +41,7 @@ pub data FirstField (p : Point) : Refusal → Type 0 where
 
 module _ (p : Point) (why : Refusal) where
   -- of the flags: the first of five tests
-  flags_first : flags_fit_of p.flags ≡ Refused why → FirstField p why
+  flags_first : flags_fit_of p.flags ≡ Err why → FirstField p why
   unfolding flags_fit_of readings_fit
   flags_first =
       let f = p.flags in
@@ -55,27 +51,27 @@ module _ (p : Point) (why : Refusal) where
       (λ c. past (FirstField p) why (ltb 0 (channel_of f)) _ _ (λ t. at-channel (ltb-false 7 _ a) (ltb-false 7 _ b) (ltb-false 31 _ c) (ltb-true 0 _ t))
       (λ d. last (FirstField p) why (overlap_goes (overlap_of f) (class_of f)) _ (λ t. at-overlap (ltb-false 7 _ a) (ltb-false 7 _ b) (ltb-false 31 _ c) (omega (arith, ltb-false 0 (channel_of f) d)) t)))))
 
-  module _ (fits : flags_fit_of p.flags ≡ Fits) where
+  module _ (fits : flags_fit_of p.flags ≡ Ok tt) where
     fitting : FlagsFit p
     unfolding flags_fit_of
     fitting = fits_fitting (return_number_of p.flags) (number_of_returns_of p.flags) (class_of p.flags) (channel_of p.flags) (overlap_of p.flags) fits
 
     -- then the near infrared, and then the angle
-    nir_first : (n : MaybeNir) → p.nir ≡ n → nir_fit_of n ≡ Refused why → FirstField p why
+    nir_first : (n : Option ℕ) → p.nir ≡ n → nir_fit_of n ≡ Err why → FirstField p why
     nir_first (Some n) is e =
         let same : nir_number p.nir ≡ n = ap nir_number is in
         last (FirstField p) why (eqb n 0) (Nir n) (λ t. subst (λ (m : ℕ). FirstField p (Nir m)) same (at_nir fitting (λ z. eqb-false n 0 t (sym same ∙ z)))) e
     nir_first None is e = not-refused why (sym e)
 
-    angle_first : nir_fit_of p.nir ≡ Fits → angle_fit_of p.scan_angle ≡ Refused why → FirstField p why
+    angle_first : nir_fit_of p.nir ≡ Ok tt → angle_fit_of p.scan_angle ≡ Err why → FirstField p why
     unfolding angle_fit_of
     angle_first none = last (FirstField p) why (rank_fits (exact_rank p.scan_angle)) _ (at-angle fitting (nir_none p.nir none))
 
-  pub first_named : fit_of p ≡ Refused why → FirstField p why
+  pub first_named : fit_of p ≡ Err why → FirstField p why
   unfolding fit_of
   first_named = go (flags_fit_of p.flags) (nir_fit_of p.nir) refl refl
     where
-      go : (x y : Fit) → flags_fit_of p.flags ≡ x → nir_fit_of p.nir ≡ y → first_of x (first_of y (angle_fit_of p.scan_angle)) ≡ Refused why → FirstField p why
-      go (Refused r) y fx fy e = flags_first (fx ∙ e)
-      go Fits (Refused r) fx fy e = nir_first fx p.nir refl (fy ∙ e)
-      go Fits Fits fx fy e = angle_first fx fy e
+      go : (x y : Result Unit Refusal) → flags_fit_of p.flags ≡ x → nir_fit_of p.nir ≡ y → first_of x (first_of y (angle_fit_of p.scan_angle)) ≡ Err why → FirstField p why
+      go (Err r) y fx fy e = flags_first (fx ∙ e)
+      go (Ok _) (Err r) fx fy e = nir_first fx p.nir refl (fy ∙ e)
+      go (Ok _) (Ok _) fx fy e = angle_first fx fy e

@@ -1,5 +1,5 @@
 -- When flags fit, what the old bytes then read, and that nothing else could be read.
-use Rattle.std.specs.Prelude.{ℕ, ◌%◌, ◌≤◌, Bool, ◌&&◌, ltb}
+use Rattle.std.specs.Prelude.{Result, Ok, Err, ℕ, ◌%◌, ◌≤◌, Bool, ◌&&◌, ltb}
 use Rattle.std.proofs.Math.Path.{◌≡◌, refl}
 use Rattle.std.proofs.Common.{ap, sym, subst, ◌∙◌}
 use Rattle.std.proofs.Math.Bool.{true, false, not, cond}
@@ -11,34 +11,31 @@ use Rattle.refusal.specs.declared.Refusal.{Refusal}
 use Rattle.flags.specs.declared.Flags.{Flags}
 use Rattle.flags.specs.declared.Flags.TheVariants.{TwoByte, ThreeByte}
 use Rattle.flags.specs.declared.ScanDirection.TheVariants.{RightToLeft, LeftToRight}
-use Rattle.flags.specs.declared.TwoBytes.TheVariants.{Bytes}
 use Rattle.flags.specs.Readings.{return_number_of, number_of_returns_of, direction_bit, edge_of, class_of, synthetic_of, key_point_of, withheld_of, overlap_of, channel_of}
 use Rattle.flags.specs.Bytes.{old_first, old_second, two_bytes_of}
 use Rattle.flags.specs.Laws.{two_kept, two_fits}
-use Rattle.strict.specs.declared.Fit.{Fit}
-use Rattle.strict.specs.declared.Fit.TheVariants.{Fits, Refused}
 use Rattle.strict.specs.Fit.{overlap_goes, readings_fit, flags_fit_of}
 use Rattle.strict.specs.Shown.{Shown, Down}
 use Rattle.strict.specs.Made.{old-first, old_second_lem}
 
 -- a refusal is no fit
-pub not-refused : {A : Type 0} (r : Refusal) → Refused r ≡ Fits → A
+pub not-refused : {A : Type 0} (r : Refusal) → ◌≡◌ {A = Result Unit Refusal} (Err r) (Ok tt) → A
 not-refused r e = let z : ◌≡◌ {A = ℕ} 0 1 = cc in absurd (omega arith)
 
-pub only-fits : (t : Bool) (r : Refusal) → cond t Fits (Refused r) ≡ Fits → t ≡ true
+pub only-fits : (t : Bool) (r : Refusal) → ◌≡◌ {A = Result Unit Refusal} (cond t (Ok tt) (Err r)) (Ok tt) → t ≡ true
 only-fits true r e = refl
 only-fits false r e = not-refused r e
 
 -- what holds of a refusal that a chain of tests ends in: it is a test's own, and those before it did not hold
 module _ (Q : Refusal → Type 0) (why : Refusal) where
-  named : (x : Refusal) → Q x → Refused x ≡ Refused why → Q why
+  named : (x : Refusal) → Q x → ◌≡◌ {A = Result Unit Refusal} (Err x) (Err why) → Q why
   named x q e = let same : x ≡ why = cc in subst Q same q
 
-  pub past : (t : Bool) (x : Refusal) (y : Fit) → (t ≡ true → Q x) → (t ≡ false → y ≡ Refused why → Q why) → cond t (Refused x) y ≡ Refused why → Q why
+  pub past : (t : Bool) (x : Refusal) (y : Result Unit Refusal) → (t ≡ true → Q x) → (t ≡ false → y ≡ Err why → Q why) → cond t (Err x) y ≡ Err why → Q why
   past true x y u v e = named x (u refl) e
   past false x y u v e = v refl e
 
-  pub last : (t : Bool) (x : Refusal) → (t ≡ false → Q x) → cond t Fits (Refused x) ≡ Refused why → Q why
+  pub last : (t : Bool) (x : Refusal) → (t ≡ false → Q x) → ◌≡◌ {A = Result Unit Refusal} (cond t (Ok tt) (Err x)) (Err why) → Q why
   last true x u e = not-refused why (sym e)
   last false x u e = named x (u refl) e
 
@@ -51,7 +48,7 @@ pub record Fitting (return_number returns class channel : ℕ) (overlap : Bool) 
   pub goes : overlap_goes overlap class ≡ true
 
 module _ (r n k c : ℕ) (o : Bool) where
-  pub fits_fitting : readings_fit r n k c o ≡ Fits → Fitting r n k c o
+  pub fits_fitting : readings_fit r n k c o ≡ Ok tt → Fitting r n k c o
   unfolding readings_fit
   fits_fitting e =
       let one = passed (ltb 7 r) _ _ e in
@@ -66,11 +63,11 @@ module _ (r n k c : ℕ) (o : Bool) where
         goes = only-fits (overlap_goes o k) _ four.1;
       }
     where
-      passed : (t : Bool) (x : Refusal) (y : Fit) → cond t (Refused x) y ≡ Fits → (t ≡ false) × (y ≡ Fits)
+      passed : (t : Bool) (x : Refusal) (y : Result Unit Refusal) → cond t (Err x) y ≡ Ok tt → (t ≡ false) × (y ≡ Ok tt)
       passed true x y e = not-refused x e
       passed false x y e = (refl, e)
 
-  pub fitting_fits : Fitting r n k c o → readings_fit r n k c o ≡ Fits
+  pub fitting_fits : Fitting r n k c o → readings_fit r n k c o ≡ Ok tt
   unfolding readings_fit
   fitting_fits f =
       rw (le-ltb 7 r f.return-number, le-ltb 7 n f.number-of-returns, le-ltb 31 k f.class-fits, le-ltb 0 c (omega (arith, f.no-channel)), f.goes)
@@ -117,7 +114,7 @@ says_12 k other false true e = rw e
 says_12 k other false false e = rw (e, other)
 
 -- the two bytes of extended flags that fit
-module _ (a b c : ℕ) (fits : flags_fit_of (ThreeByte a b c) ≡ Fits) where
+module _ (a b c : ℕ) (fits : flags_fit_of (ThreeByte a b c) ≡ Ok tt) where
   abbrev f : Flags
   f = ThreeByte a b c
 
@@ -133,14 +130,14 @@ module _ (a b c : ℕ) (fits : flags_fit_of (ThreeByte a b c) ≡ Fits) where
   class_kept true e = sym (eqb-true c 12 e)
   class_kept false e = refl
 
-  pub bytes-of_fitting : two_bytes_of f ≡ Bytes (old_first (return_number_of f) (number_of_returns_of f) (direction_bit f) (edge_of f)) (old_second c (synthetic_of f) (key_point_of f) (withheld_of f))
+  pub bytes-of_fitting : two_bytes_of f ≡ Ok ((old_first (return_number_of f) (number_of_returns_of f) (direction_bit f) (edge_of f)), (old_second c (synthetic_of f) (key_point_of f) (withheld_of f)))
   bytes-of_fitting =
       let said = fitting in
       two_fits a b c said.return-number said.number-of-returns said.class-fits (omega (arith, said.no-channel))
       ∙ rw (class_kept (overlap_of f) overlap_read.1)
 
 -- flags that fit are shown whole by the two bytes of the plain conversion
-pub fits_down : (f : Flags) → flags_fit_of f ≡ Fits → Down f
+pub fits_down : (f : Flags) → flags_fit_of f ≡ Ok tt → Down f
 unfolding flags_fit_of
 fits_down (TwoByte a b) fits =
     let said = fits_fitting _ _ _ _ _ fits in
@@ -189,7 +186,7 @@ fits_down (ThreeByte a b c) fits =
     }
 
 -- and flags that any two bytes show whole fit
-pub shown-fits : (f : Flags) (x y : ℕ) → Shown f (TwoByte x y) → flags_fit_of f ≡ Fits
+pub shown-fits : (f : Flags) (x y : ℕ) → Shown f (TwoByte x y) → flags_fit_of f ≡ Ok tt
 unfolding flags_fit_of
 shown-fits f x y s =
     let low : y % 32 % 16 ≡ y % 16 = omega arith in

@@ -1,5 +1,5 @@
 -- The field that a refusal names is one that no old record of the standard can show.
-use Rattle.std.specs.Prelude.{ℕ, suc, ◌/◌, ◌%◌, ◌<◌, ◌≡◌, refl, true, false, eqb, ltb}
+use Rattle.std.specs.Prelude.{Option, Some, None, Result, Ok, Err, ℕ, suc, ◌/◌, ◌%◌, ◌<◌, ◌≡◌, refl, true, false, eqb, ltb}
 use Rattle.std.proofs.Math.Path.{ap}
 use Rattle.std.proofs.Common.{sym, subst, ◌∙◌, arith, ltb-true}
 use Rattle.std.proofs.lemmas.Bool.{eqb-false}
@@ -11,12 +11,8 @@ use Rattle.flags.specs.declared.Flags.{Flags}
 use Rattle.flags.specs.declared.Flags.TheVariants.{TwoByte}
 use Rattle.flags.specs.Readings.{return_number_of, number_of_returns_of, class_of, channel_of, overlap_of, standard_overlap_of}
 use Rattle.angle.specs.declared.ScanAngle.{ScanAngle}
-use Rattle.point.specs.declared.MaybeNir.{MaybeNir}
-use Rattle.point.specs.declared.MaybeNir.TheVariants.{Some, None}
 use Rattle.point.specs.declared.Point.{Point}
 use Rattle.point.specs.Kind.{old_flags, no_nir}
-use Rattle.strict.specs.declared.Fit.{Fit}
-use Rattle.strict.specs.declared.Fit.TheVariants.{Fits, Refused}
 use Rattle.strict.specs.Fit.{first_of, overlap_goes, readings_fit, flags_fit_of, nir_fit_of, rank_fits, exact_rank, angle_fit_of, fit_of}
 use Rattle.pairs.specs.Sound.{not-up}
 use Rattle.strict.specs.Shown.{nir_number, Same, Within90, Never, Unshown, return-number, number-of-returns, class, channel, overlap, nir, angle}
@@ -42,7 +38,7 @@ module _ (old : Format) (is_old : old.is_extended ≡ false) (without : old.has_
           let goes : overlap_goes (overlap_of p.flags) (y % 32) ≡ true = read_goes (y % 32) (overlap_of p.flags) (ap (λ (m : ℕ). eqb m 12) low ∙ rust) standard in
           not-up (sym t ∙ subst (λ (c : ℕ). overlap_goes (overlap_of p.flags) c ≡ true) k goes)
 
-  flags_named : flags_fit_of p.flags ≡ Refused why → Unshown old p why
+  flags_named : flags_fit_of p.flags ≡ Err why → Unshown old p why
   unfolding flags_fit_of readings_fit
   flags_named =
       let f = p.flags in
@@ -52,23 +48,23 @@ module _ (old : Format) (is_old : old.is_extended ≡ false) (without : old.has_
       (λ _. past (Unshown old p) why (ltb 0 (channel_of f)) _ _ (λ t. channel (never (λ g. channel_of g ≡ channel_of f) (λ x y. large 0 (channel_of f) t 0 (omega arith))))
       (λ _. last (Unshown old p) why (overlap_goes (overlap_of f) (class_of f)) _ overlap_named))))
 
-  nir_named : (n : MaybeNir) → p.nir ≡ n → nir_fit_of n ≡ Refused why → Unshown old p why
+  nir_named : (n : Option ℕ) → p.nir ≡ n → nir_fit_of n ≡ Err why → Unshown old p why
   nir_named (Some n) is e =
       let same : nir_number p.nir ≡ n = ap nir_number is in
       last (Unshown old p) why (eqb n 0) (Nir n) (λ t. subst (λ (m : ℕ). Unshown old p (Nir m)) same (nir (λ b _ z. eqb-false n 0 t (sym same ∙ sym z ∙ ap nir_number (no_nir old b without))))) e
   nir_named None is e = not-refused why (sym e)
 
-  angle_named : angle_fit_of p.scan_angle ≡ Refused why → Unshown old p why
+  angle_named : angle_fit_of p.scan_angle ≡ Err why → Unshown old p why
   unfolding angle_fit_of
   angle_named = last (Unshown old p) why (rank_fits (exact_rank p.scan_angle)) _ (λ out. angle (λ t bytes s. not-up (sym out ∙ ap (λ (a : ScanAngle). rank_fits (exact_rank a)) (sym s.1) ∙ s.0)))
 
-  pub refusal_named : fit_of p ≡ Refused why → Unshown old p why
+  pub refusal_named : fit_of p ≡ Err why → Unshown old p why
   unfolding fit_of
   refusal_named = either (flags_fit_of p.flags) _ flags_named (either (nir_fit_of p.nir) _ (nir_named p.nir refl) angle_named)
     where
-      either : (f g : Fit) → (f ≡ Refused why → Unshown old p why) → (g ≡ Refused why → Unshown old p why) → first_of f g ≡ Refused why → Unshown old p why
-      either Fits g u v e = v e
-      either (Refused r) g u v e = u e
+      either : (f g : Result Unit Refusal) → (f ≡ Err why → Unshown old p why) → (g ≡ Err why → Unshown old p why) → first_of f g ≡ Err why → Unshown old p why
+      either (Ok _) g u v e = v e
+      either (Err r) g u v e = u e
 
 -- and so none shows the point
 pub unshown_never : {old : Format} {p : Point} {why : Refusal} → Unshown old p why → Never old (λ q. Within90 q × Same p q)

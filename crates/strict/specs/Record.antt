@@ -1,5 +1,6 @@
 -- What an old record is read as, of a point that fits; and an old point brought up and written down again.
-use Rattle.std.specs.Prelude.{ℕ, ◌*◌, ◌/◌, ◌<◌, ◌≤◌, ◌≡◌, Bool, true, false, List, ◌++◌, nat_abs, length, take, drop}
+use Rattle.std.specs.Prelude.{Option, Some, None, Result, Ok, Err, ℕ, ◌*◌, ◌/◌, ◌<◌, ◌≤◌, ◌≡◌, Bool, true, false, List, ◌++◌, nat_abs, length, take, drop}
+use Rattle.refusal.specs.declared.Refusal.{Refusal}
 use Rattle.std.proofs.Math.Path.{refl, ap, sym, subst}
 use Rattle.std.proofs.Common.{◌∙◌, arith}
 use Rattle.std.specs.Int.Signed.{nat_abs-le}
@@ -12,8 +13,6 @@ use Rattle.format.specs.declared.Field.TheVariants.{X, Y, Z, Intensity, Flags, U
 use Rattle.format.specs.Fields.{size_of, place_of, has_of, record_bytes}
 use Rattle.flags.specs.declared.Flags as flags
 use Rattle.flags.specs.declared.Flags.TheVariants.{TwoByte, ThreeByte}
-use Rattle.flags.specs.declared.TwoBytes.{TwoBytes}
-use Rattle.flags.specs.declared.TwoBytes.TheVariants as two
 use Rattle.flags.specs.Readings.{return_number_of, number_of_returns_of, direction_bit, edge_of, class_of, synthetic_of, key_point_of, withheld_of}
 use Rattle.flags.specs.Bytes.{two_bytes_of}
 use Rattle.flags.specs.Laws.{two_kept}
@@ -23,8 +22,6 @@ use Rattle.angle.specs.Angle.{to_rank, to_scaled}
 use Rattle.angle.specs.Ranks.{rank_fits_lem}
 use Rattle.angle.specs.Sign.{scaled-size, sided-fits}
 use Rattle.angle.specs.Theorems.{rank_kept}
-use Rattle.point.specs.declared.MaybeNir.{MaybeNir}
-use Rattle.point.specs.declared.MaybeNir.TheVariants.{Some, None}
 use Rattle.point.specs.declared.Point.{Point}
 use Rattle.point.specs.Read.{field_of, point_of}
 use Rattle.point_write.specs.Write.{two_list, field_bytes, record_of}
@@ -33,8 +30,6 @@ use Rattle.point_write.specs.Again.{held-taken}
 use Rattle.point_write.specs.Octets.{record_made}
 use Rattle.point_write.specs.Held.{FlagsHeld, AngleHeld, TimeHeld, ColorHeld, NirHeld, WaveformHeld, Held, nir_in, shown_in}
 use Rattle.point_write.specs.Theorems.{read_then_written, read_is_held, written_then_read, extra-written_then_read, missing_then_zero, extra-beside_missing}
-use Rattle.strict.specs.declared.Fit.{Fit}
-use Rattle.strict.specs.declared.Fit.TheVariants.{Fits}
 use Rattle.strict.specs.Fit.{first_of, flags_fit_of, nir_fit_of, angle_fit_of, fit_of}
 use Rattle.strict.specs.Upgrade.{upgraded_flags, upgraded_old, upgraded_of}
 use Rattle.pairs.specs.Paired.{Paired}
@@ -46,9 +41,9 @@ use Rattle.strict.specs.Whole.{fit_parts, angle_exact, nir_none}
 use Rattle.strict.specs.Back.{upgraded-held, old-judged, upgraded-bytes, record_none}
 
 -- the point that an old record has of p: its two bytes of flags, its rank, and no near infrared
-abbrev pub down_flags : TwoBytes → flags.Flags
-down_flags (two.Bytes a b) = TwoByte a b
-down_flags (two.Refused r) = TwoByte 0 0
+abbrev pub down_flags : Result (ℕ × ℕ) Refusal → flags.Flags
+down_flags (Ok (a, b)) = TwoByte a b
+down_flags (Err r) = TwoByte 0 0
 
 unfoldable pub down_of : Point → Point
 down_of p =
@@ -69,7 +64,7 @@ down_of p =
 
 -- an old format's record is that point's
 module _ (old : Format) (p : Point) (e : List ℕ) (is_old : old.is_extended ≡ false) (no_nir : old.has_nir ≡ false) where
-  pub down_record : (a b : ℕ) → two_bytes_of p.flags ≡ two.Bytes a b → record_of old p e ≡ record_of old (down_of p) e
+  pub down_record : (a b : ℕ) → two_bytes_of p.flags ≡ Ok (a, b) → record_of old p e ≡ record_of old (down_of p) e
   unfolding down_of
   down_record a b t = record_same old p (down_of p) e same
     where
@@ -92,7 +87,7 @@ module _ (old : Format) (p : Point) (e : List ℕ) (is_old : old.is_extended ≡
       same ExtraBytes has = refl
 
 -- what the new format holds of flags and angle the old one holds of theirs
-flags-down : (f : flags.Flags) → FlagsHeld true f → flags_fit_of f ≡ Fits → FlagsHeld false (down_flags (two_bytes_of f))
+flags-down : (f : flags.Flags) → FlagsHeld true f → flags_fit_of f ≡ Ok tt → FlagsHeld false (down_flags (two_bytes_of f))
 flags-down (TwoByte a b) h fits = absurd h
 flags-down (ThreeByte a b c) h fits =
     let f = ThreeByte a b c in
@@ -106,7 +101,7 @@ angle-down (Rank r) h = absurd h
 angle-down (Scaled n) h = rank_fits_lem n
 
 module _ (new old : Format) (pair : Paired new old) (p : Point) (e : List ℕ) where
-  module _ (has : Held new p e) (fits : fit_of p ≡ Fits) where
+  module _ (has : Held new p e) (fits : fit_of p ≡ Ok tt) where
     down_held : Held old (down_of p) e
     unfolding down_of
     down_held =
@@ -144,7 +139,7 @@ module _ (new old : Format) (pair : Paired new old) (p : Point) (e : List ℕ) w
     down_bytes extra = rw same_record (record_made old (down_of p) e down_held extra, record_length_lem old (down_of p) e (held-taken old (down_of p) e down_held))
 
   -- what that point shows
-  pub down_same : fit_of p ≡ Fits → Same p (down_of p)
+  pub down_same : fit_of p ≡ Ok tt → Same p (down_of p)
   unfolding down_of
   down_same fits =
       let fit = fit_parts p fits in
@@ -175,7 +170,7 @@ angle_back : (a : angle.ScanAngle) → AngleHeld false a → Rank (to_rank (Scal
 angle_back (Scaled n) h = absurd h
 angle_back (Rank r) h = ap Rank (rank_kept r h)
 
-nir_back : (n : MaybeNir) → NirHeld false n → None ≡ n
+nir_back : (n : Option ℕ) → NirHeld false n → None ≡ n
 nir_back (Some n) h = absurd h
 nir_back None h = refl
 
@@ -186,9 +181,9 @@ none-held false = tt
 
 shown-judged : (f : Format) (p : Point) → fit_of (shown_in f p) ≡ fit_of p
 unfolding fit_of
-shown-judged f p = ap (λ (x : Fit). first_of (flags_fit_of p.flags) (first_of x (angle_fit_of p.scan_angle))) (go f.has_nir p.nir)
+shown-judged f p = ap (λ (x : Result Unit Refusal). first_of (flags_fit_of p.flags) (first_of x (angle_fit_of p.scan_angle))) (go f.has_nir p.nir)
   where
-    go : (has : Bool) (n : MaybeNir) → nir_fit_of (nir_in has n) ≡ nir_fit_of n
+    go : (has : Bool) (n : Option ℕ) → nir_fit_of (nir_in has n) ≡ nir_fit_of n
     go true (Some n) = refl
     go true None = refl
     go false n = refl
@@ -227,7 +222,7 @@ module _ (new old : Format) (pair : Paired new old) (p : Point) (e : List ℕ) (
       }
 
   module _ (not_28 : class_of (TwoByte a b) ≡ 28 → ⊥) where
-    bytes_back : two_bytes_of (upgraded_flags (TwoByte a b)) ≡ two.Bytes a b
+    bytes_back : two_bytes_of (upgraded_flags (TwoByte a b)) ≡ Ok (a, b)
     bytes_back = upgraded-bytes a b not_28 flags_held.0 flags_held.1
 
     -- and its old point is the one that it came from
@@ -256,14 +251,14 @@ module _ (new old : Format) (pair : Paired new old) (p : Point) (e : List ℕ) (
 
 -- the same of a record's bytes
 module _ (new old : Format) (pair : Paired new old) (s : List ℕ) (all : Bytes s) (rest : List ℕ) where
-  pub image_same : record_bytes new ≤ length s → fit_of (point_of new s) ≡ Fits → Same (point_of new s) (point_of old (down_image new old s ++ rest)) × (field_of old ExtraBytes (down_image new old s ++ rest) ≡ field_of new ExtraBytes s)
+  pub image_same : record_bytes new ≤ length s → fit_of (point_of new s) ≡ Ok tt → Same (point_of new s) (point_of old (down_image new old s ++ rest)) × (field_of old ExtraBytes (down_image new old s ++ rest) ≡ field_of new ExtraBytes s)
   image_same long fits =
       let p = point_of new s in
       let e = field_of new ExtraBytes s in
       let read = down_read new old pair p e (read_is_held new s all long) fits rest in
       (rw read.0 (down_same new old pair p e fits), read.1)
 
-  pub image_bytes : record_bytes new ≤ length s → fit_of (point_of new s) ≡ Fits → Bytes (down_image new old s) × (length (down_image new old s) ≡ record_bytes old)
+  pub image_bytes : record_bytes new ≤ length s → fit_of (point_of new s) ≡ Ok tt → Bytes (down_image new old s) × (length (down_image new old s) ≡ record_bytes old)
   image_bytes long fits =
       down_bytes new old pair (point_of new s) (field_of new ExtraBytes s) (read_is_held new s all long) fits (bytes_take (size_of new ExtraBytes) (drop (place_of new ExtraBytes) s) (bytes_drop (place_of new ExtraBytes) s all))
 

@@ -1,6 +1,6 @@
 -- What an old reader is shown of a point. Document 01, "Strict conversion": "the old reader of demand 3 is the Rust's and the
 -- standard's both".
-use Rattle.std.specs.Prelude.{ℕ, ◌≡◌, true, List}
+use Rattle.std.specs.Prelude.{Option, Some, None, Ok, ℕ, ◌≡◌, true, List}
 use Rattle.std.specs.Int.{w16}
 use Rattle.std.proofs.Common.{of_z}
 use Rattle.le.specs.Le as le
@@ -10,13 +10,10 @@ use Rattle.refusal.specs.declared.Refusal.{Refusal}
 use Rattle.refusal.specs.declared.Refusal.TheVariants.{ReturnNumber, NumberOfReturns, Class, Channel, Overlap, Nir, Angle}
 use Rattle.flags.specs.declared.Flags.{Flags}
 use Rattle.flags.specs.declared.Flags.TheVariants.{TwoByte}
-use Rattle.flags.specs.declared.TwoBytes.TheVariants.{Bytes}
 use Rattle.flags.specs.Readings.{return_number_of, number_of_returns_of, direction_of, edge_of, class_of, synthetic_of, key_point_of, withheld_of, overlap_of, standard_overlap_of, channel_of}
 use Rattle.flags.specs.Bytes.{two_bytes_of}
 use Rattle.angle.specs.declared.ScanAngle.TheVariants.{Rank}
 use Rattle.angle.specs.Angle.{to_scaled}
-use Rattle.point.specs.declared.MaybeNir.{MaybeNir}
-use Rattle.point.specs.declared.MaybeNir.TheVariants.{Some, None}
 use Rattle.point.specs.declared.Point.{Point}
 use Rattle.point.specs.Read.{field_of, point_of}
 use Rattle.point_write.specs.Write.{record_of}
@@ -41,11 +38,11 @@ pub record Shown (f g : Flags) : Type 0 where
 pub record Down (f : Flags) : Type 0 where
   pub first : ℕ
   pub second : ℕ
-  pub bytes : two_bytes_of f ≡ Bytes first second
+  pub bytes : two_bytes_of f ≡ Ok (first, second)
   pub shown : Shown f (TwoByte first second)
 
 -- document 02, No. 5: "demand 3 reads a missing NIR, in the old record or the new, as zero"
-abbrev pub nir_number : MaybeNir → ℕ
+abbrev pub nir_number : Option ℕ → ℕ
 nir_number (Some n) = n
 nir_number None = 0
 

@@ -1,5 +1,5 @@
 -- What the check of a record and the upgrade add up to. Demand 3, for one record.
-use Rattle.std.specs.Prelude.{ℕ, ◌≤◌, ◌≡◌, refl, List, ◌∷◌, ◌++◌, ◌↔◌, ℤ, pos, neg_ℤ, length, take, replicate}
+use Rattle.std.specs.Prelude.{None, Result, Ok, Err, ℕ, ◌≤◌, ◌≡◌, refl, List, ◌∷◌, ◌++◌, ◌↔◌, ℤ, pos, neg_ℤ, length, take, replicate}
 use Rattle.std.proofs.Common.{ap, sym, ◌∙◌, arith, of_z}
 use Rattle.std.specs.Int.{w16}
 use Rattle.refusal.specs.declared.Refusal.{Refusal}
@@ -12,21 +12,14 @@ use Rattle.format.specs.declared.Field.TheVariants.{ExtraBytes}
 use Rattle.format.specs.Fields.{record_bytes}
 use Rattle.flags.specs.declared.Flags.{Flags}
 use Rattle.flags.specs.declared.Flags.TheVariants.{TwoByte, ThreeByte}
-use Rattle.flags.specs.declared.TwoBytes.TheVariants.{Bytes}
 use Rattle.flags.specs.Readings.{class_of}
 use Rattle.flags.specs.Bytes.{old_bytes_of, two_bytes_of, three_bytes_of}
 use Rattle.angle.specs.declared.ScanAngle.{ScanAngle}
 use Rattle.angle.specs.declared.ScanAngle.TheVariants.{Rank, Scaled}
 use Rattle.angle.specs.Angle.{nearest, nearest_rank, held, rank_of, scaled_of, to_rank, to_scaled}
 use Rattle.angle.specs.Sign.{scaled-size}
-use Rattle.point.specs.declared.MaybeTime.TheVariants as time
-use Rattle.point.specs.declared.MaybeColor.TheVariants as color
-use Rattle.point.specs.declared.MaybeWaveform.TheVariants as waveform
-use Rattle.point.specs.declared.MaybeNir.TheVariants as nir
 use Rattle.point.specs.declared.Point.{Point}
 use Rattle.point.specs.Read.{field_of, point_of}
-use Rattle.strict.specs.declared.Fit.{Fit}
-use Rattle.strict.specs.declared.Fit.TheVariants.{Fits, Refused}
 use Rattle.strict.specs.Fit.{overlap_goes, readings_fit, flags_fit_of, rank_fits, angle_fit_of, fit_of}
 use Rattle.strict.specs.Upgrade.{upgraded_flags, upgraded_of}
 use Rattle.pairs.specs.Paired.{Paired}
@@ -40,19 +33,19 @@ use Rattle.strict.specs.Record.{image_same, image_bytes, image_back}
 module _ (new old : Format) (pair : Paired new old) (s : List ℕ) (all : le.Bytes s) (rest : List ℕ) where
   -- "records made strictly into [their] paired old format [show] an old reader, in every record, the same value in every field,
   -- scan angle to the nearest whole degree with halves away from zero", whatever stands after the record; and the same extra bytes.
-  pub shown_the_same : record_bytes new ≤ length s → fit_of (point_of new s) ≡ Fits → Same (point_of new s) (point_of old (down_image new old s ++ rest)) × (field_of old ExtraBytes (down_image new old s ++ rest) ≡ field_of new ExtraBytes s)
+  pub shown_the_same : record_bytes new ≤ length s → fit_of (point_of new s) ≡ Ok tt → Same (point_of new s) (point_of old (down_image new old s ++ rest)) × (field_of old ExtraBytes (down_image new old s ++ rest) ≡ field_of new ExtraBytes s)
   shown_the_same = image_same new old pair s all rest
 
   -- The record that shows it is one of bytes, of the old format's length.
-  pub shown_in_bytes : record_bytes new ≤ length s → fit_of (point_of new s) ≡ Fits → le.Bytes (down_image new old s) × (length (down_image new old s) ≡ record_bytes old)
+  pub shown_in_bytes : record_bytes new ≤ length s → fit_of (point_of new s) ≡ Ok tt → le.Bytes (down_image new old s) × (length (down_image new old s) ≡ record_bytes old)
   shown_in_bytes = image_bytes new old pair s all rest
 
   -- Document 02, No. 2: "the standard's rank runs from −90 to 90". So does the rank that the record shows.
-  pub shown-within_90 : record_bytes new ≤ length s → fit_of (point_of new s) ≡ Fits → Within90 (point_of old (down_image new old s ++ rest))
+  pub shown-within_90 : record_bytes new ≤ length s → fit_of (point_of new s) ≡ Ok tt → Within90 (point_of old (down_image new old s ++ rest))
   shown-within_90 long fits = same-within (shown_the_same long fits).0 fits
 
   -- Brought up, an old record fits exactly when its class isn't 28 and its rank is within ±90.
-  pub down_again_exactly : record_bytes old ≤ length s → (fit_of (point_of new (up_image old new s ++ rest)) ≡ Fits) ↔ ((class_of (point_of old s).flags ≡ 28 → ⊥) × Within90 (point_of old s))
+  pub down_again_exactly : record_bytes old ≤ length s → (fit_of (point_of new (up_image old new s ++ rest)) ≡ Ok tt) ↔ ((class_of (point_of old s).flags ≡ 28 → ⊥) × Within90 (point_of old s))
   down_again_exactly long =
       let alike = (image_back new old pair s all rest long).0 in
       let own = record_fits old pair.is_old pair.no_nir s in
@@ -60,7 +53,7 @@ module _ (new old : Format) (pair : Paired new old) (s : List ℕ) (all : le.Byt
 
   -- "An old record with a pair, whose class isn't 28 .., brought up and strictly down again, has its own bytes." Document 02, No. 2: this "now
   -- needs the old rank within ±90". Class and rank are both needed, by `down_again_exactly`.
-  pub up-and_down : record_bytes old ≤ length s → (class_of (point_of old s).flags ≡ 28 → ⊥) → Within90 (point_of old s) → (fit_of (point_of new (up_image old new s ++ rest)) ≡ Fits) × (down_image new old (up_image old new s ++ rest) ≡ take (record_bytes old) s)
+  pub up-and_down : record_bytes old ≤ length s → (class_of (point_of old s).flags ≡ 28 → ⊥) → Within90 (point_of old s) → (fit_of (point_of new (up_image old new s ++ rest)) ≡ Ok tt) × (down_image new old (up_image old new s ++ rest) ≡ take (record_bytes old) s)
   up-and_down long not_28 within = ((down_again_exactly long).1 (not_28, within), (image_back new old pair s all rest long).1 not_28)
 
 -- Document 02, No. 2: a point that holds a rank is judged by the same limits as one that holds a scaled angle. So an old point, which has no
@@ -69,29 +62,29 @@ pub judged_as_upgraded : (p : Point) → nir_number p.nir ≡ 0 → fit_of (upgr
 judged_as_upgraded = upgraded-judged
 
 -- "Otherwise the .. first field that doesn't fit [is] named": it does not fit, and all before it in document 01's order do.
-pub first-field_named : (p : Point) (why : Refusal) → fit_of p ≡ Refused why → FirstField p why
+pub first-field_named : (p : Point) (why : Refusal) → fit_of p ≡ Err why → FirstField p why
 first-field_named = first_named
 
 -- "It is refused only then": what is named no old record of the pair has, of an angle none whose rank is the standard's, so that none of
 -- the standard shows the same values.
 module _ (new old : Format) (pair : Paired new old) where
   module _ (p : Point) where
-    pub refused-only_then : (why : Refusal) → fit_of p ≡ Refused why → Unshown old p why
+    pub refused-only_then : (why : Refusal) → fit_of p ≡ Err why → Unshown old p why
     refused-only_then = refusal_named old pair.is_old pair.no_nir p
 
-    pub no-old_record_shows_it : (why : Refusal) → fit_of p ≡ Refused why → Never old (λ q. Within90 q × Same p q)
+    pub no-old_record_shows_it : (why : Refusal) → fit_of p ≡ Err why → Never old (λ q. Within90 q × Same p q)
     no-old_record_shows_it why refused = unshown_never (refused-only_then why refused)
 
     -- The other way round, a point that any old record of the standard shows fits.
-    pub fits-if-shown : (t : List ℕ) → le.Bytes t → Within90 (point_of old t) → Same p (point_of old t) → fit_of p ≡ Fits
+    pub fits-if-shown : (t : List ℕ) → le.Bytes t → Within90 (point_of old t) → Same p (point_of old t) → fit_of p ≡ Ok tt
     fits-if-shown t bytes within same = go (fit_of p) refl
       where
-        go : (x : Fit) → fit_of p ≡ x → fit_of p ≡ Fits
-        go Fits e = e
-        go (Refused why) e = absurd (no-old_record_shows_it why e t bytes (within, same))
+        go : (x : Result Unit Refusal) → fit_of p ≡ x → fit_of p ≡ Ok tt
+        go (Ok _) e = e
+        go (Err why) e = absurd (no-old_record_shows_it why e t bytes (within, same))
 
   -- Of every old record this would be false: one of zeros and rank 104, whatever follows, shows a point that is refused.
-  pub rank_104_shows_a_refused_point : (rest : List ℕ) → le.Bytes rest → le.Bytes (replicate 16 0 ++ (104 ∷ rest)) × (p : Point) × Same p (point_of old (replicate 16 0 ++ (104 ∷ rest))) × (fit_of p ≡ Refused (Angle 17333))
+  pub rank_104_shows_a_refused_point : (rest : List ℕ) → le.Bytes rest → le.Bytes (replicate 16 0 ++ (104 ∷ rest)) × (p : Point) × Same p (point_of old (replicate 16 0 ++ (104 ∷ rest))) × (fit_of p ≡ Err (Angle 17333))
   rank_104_shows_a_refused_point rest bytes = (
     both_made (replicate 16 0) (104 ∷ rest) (zeros_made 16) (one_made 104 rest (omega arith) bytes),
     _,
@@ -112,10 +105,10 @@ marked f a =
       scan_angle = a;
       user_data = 0;
       point_source_id = 0;
-      gps_time = time.None;
-      color = color.None;
-      waveform = waveform.None;
-      nir = nir.None;
+      gps_time = None;
+      color = None;
+      waveform = None;
+      nir = None;
     }
 
 abbrev pub flagged : ℕ → ℕ → ℕ → Point
@@ -124,9 +117,9 @@ flagged a b c = marked (ThreeByte a b c) (Scaled (pos 0))
 abbrev pub angled : ℤ → Point
 angled n = marked (ThreeByte 0x11 0 2) (Scaled n)
 
-abbrev pub refusal_of : Fit → ℕ × ℕ
-refusal_of Fits = (0, 0)
-refusal_of (Refused why) = (number_of why, value_of why)
+abbrev pub refusal_of : Result Unit Refusal → ℕ × ℕ
+refusal_of (Ok _) = (0, 0)
+refusal_of (Err why) = (number_of why, value_of why)
 
 -- Document 01's numbers, "P: proved together, one list, one statement about the definitions", with document 02's on ranks.
 pub worked :
@@ -136,9 +129,9 @@ pub worked :
     (to_rank (Scaled (pos 249)) ≡ pos 1)
     × (to_rank (Scaled (pos 250)) ≡ pos 2)
     × (to_rank (Scaled (neg_ℤ (pos 250))) ≡ neg_ℤ (pos 2))
-    × (to_rank (Scaled (pos 15083)) ≡ pos 90) × (fit_of (angled (pos 15083)) ≡ Fits)
+    × (to_rank (Scaled (pos 15083)) ≡ pos 90) × (fit_of (angled (pos 15083)) ≡ Ok tt)
     × (to_rank (Scaled (pos 15084)) ≡ pos 91) × (refusal_of (fit_of (angled (pos 15084))) ≡ (21, 15084))
-    × (to_rank (Scaled (neg_ℤ (pos 15083))) ≡ neg_ℤ (pos 90)) × (fit_of (angled (neg_ℤ (pos 15083))) ≡ Fits)
+    × (to_rank (Scaled (neg_ℤ (pos 15083))) ≡ neg_ℤ (pos 90)) × (fit_of (angled (neg_ℤ (pos 15083))) ≡ Ok tt)
     × (to_rank (Scaled (neg_ℤ (pos 15084))) ≡ neg_ℤ (pos 91)) × (refusal_of (fit_of (angled (neg_ℤ (pos 15084)))) ≡ (21, 50452))
     × (to_rank (Scaled (pos 21249)) ≡ pos 127) × (refusal_of (fit_of (angled (pos 21249))) ≡ (21, 21249))
     × (to_rank (Scaled (pos 21250)) ≡ pos 127) × (refusal_of (fit_of (angled (pos 21250))) ≡ (21, 21250))
@@ -150,10 +143,10 @@ pub worked :
     × (to_scaled (Rank (neg_ℤ (pos 128))) ≡ neg_ℤ (pos 21333))
     -- "P extended (0x11,0,2) to (0x09,0x02). P (0x21,0x48,2) plainly (0x51,0x0C), strictly 19. P (0x11,0x08,12) strictly
     -- (0x09,0x0C). P (0x11,0,28) plainly (0x09,0x1C), strictly 19"
-    × (two_bytes_of (ThreeByte 0x11 0 2) ≡ Bytes 0x09 0x02) × (fit_of (flagged 0x11 0 2) ≡ Fits)
-    × (two_bytes_of (ThreeByte 0x21 0x48 2) ≡ Bytes 0x51 0x0C) × (refusal_of (fit_of (flagged 0x21 0x48 2)) ≡ (19, 2))
-    × (two_bytes_of (ThreeByte 0x11 0x08 12) ≡ Bytes 0x09 0x0C) × (fit_of (flagged 0x11 0x08 12) ≡ Fits)
-    × (two_bytes_of (ThreeByte 0x11 0 28) ≡ Bytes 0x09 0x1C) × (refusal_of (fit_of (flagged 0x11 0 28)) ≡ (19, 28))
+    × (two_bytes_of (ThreeByte 0x11 0 2) ≡ Ok (0x09, 0x02)) × (fit_of (flagged 0x11 0 2) ≡ Ok tt)
+    × (two_bytes_of (ThreeByte 0x21 0x48 2) ≡ Ok (0x51, 0x0C)) × (refusal_of (fit_of (flagged 0x21 0x48 2)) ≡ (19, 2))
+    × (two_bytes_of (ThreeByte 0x11 0x08 12) ≡ Ok (0x09, 0x0C)) × (fit_of (flagged 0x11 0x08 12) ≡ Ok tt)
+    × (two_bytes_of (ThreeByte 0x11 0 28) ≡ Ok (0x09, 0x1C)) × (refusal_of (fit_of (flagged 0x11 0 28)) ≡ (19, 28))
     -- "P old (0x51,0x22): the Rust's three bytes (0x21,0,0x22), upgrade (0x21,0x41,0x02)"
     × (three_bytes_of (TwoByte 0x51 0x22) ≡ record { a = 0x21; b = 0; c = 0x22 })
     × (upgraded_flags (TwoByte 0x51 0x22) ≡ ThreeByte 0x21 0x41 0x02)
@@ -163,8 +156,8 @@ worked =
 
 -- What up-and_down needs, by example: old points of ground and of class 28, by their ranks, brought up and judged on their way down.
 pub worked-again :
-    (fit_of (upgraded_of (marked (TwoByte 0x09 0x02) (Rank (pos 90)))) ≡ Fits)
-    × (fit_of (upgraded_of (marked (TwoByte 0x09 0x02) (Rank (neg_ℤ (pos 90))))) ≡ Fits)
+    (fit_of (upgraded_of (marked (TwoByte 0x09 0x02) (Rank (pos 90)))) ≡ Ok tt)
+    × (fit_of (upgraded_of (marked (TwoByte 0x09 0x02) (Rank (neg_ℤ (pos 90))))) ≡ Ok tt)
     × (refusal_of (fit_of (upgraded_of (marked (TwoByte 0x09 0x02) (Rank (pos 91))))) ≡ (21, 15166))
     × (refusal_of (fit_of (upgraded_of (marked (TwoByte 0x09 0x02) (Rank (neg_ℤ (pos 91)))))) ≡ (21, 50370))
     × (refusal_of (fit_of (upgraded_of (marked (TwoByte 0x09 0x1C) (Rank (pos 0))))) ≡ (19, 28))

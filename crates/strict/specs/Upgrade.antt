@@ -1,13 +1,12 @@
 -- Document 01, "Strict conversion": "Upgrade has none of these record checks: class kept, overlap set exactly for class 12,
 -- channel and NIR 0, the other flags moved."
-use Rattle.std.specs.Prelude.{ℕ, ◌≡◌, refl, eqb, ℤ}
+use Rattle.std.specs.Prelude.{None, ℕ, ◌≡◌, refl, eqb, ℤ}
 use Rattle.flags.specs.declared.Flags.{Flags}
 use Rattle.flags.specs.declared.Flags.TheVariants.{TwoByte, ThreeByte}
 use Rattle.flags.specs.Readings.{return_number_of, number_of_returns_of, direction_bit, edge_of, class_of, synthetic_of, key_point_of, withheld_of}
 pub use Rattle.flags.specs.Bytes.{new_first, new_second}
 use Rattle.angle.specs.declared.ScanAngle.TheVariants.{Scaled}
 use Rattle.angle.specs.Angle.{to_scaled}
-use Rattle.point.specs.declared.MaybeNir.TheVariants.{None}
 use Rattle.point.specs.declared.Point.{Point}
 
 -- "class kept, overlap set exactly for class 12, channel .. 0, the other flags moved"; extended flags as they are

@@ -4,13 +4,12 @@
 
 ghost use Rattle.std.specs.Prelude.{◌≡◌};
 ghost use Rattle.angle.specs.Angle.{nearest_rank};
-ghost use Rattle.strict.specs.Fit.{first_of, overlap_goes, readings_fit, flags_fit_of, nir_fit_of, rank_fits, angle_fit_of, fields_fit, fit_of};
+ghost use Rattle.strict.specs.Fit.{overlap_goes, readings_fit, flags_fit_of, nir_fit_of, rank_fits, angle_fit_of, fields_fit, fit_of};
 ghost use Rattle.strict.specs.Upgrade.{upgraded_flags, upgraded_with, upgraded_of, upgraded_to};
 
 use angle::ScanAngle;
 use flags::Flags;
-use le::signed;
-use point::{MaybeNir, Point};
+use point::Point;
 use refusal::Refusal;
 
 // The class that stands for overlap in two-byte flags, and the one that the Rust takes for it too.
@@ -24,16 +23,9 @@ const LOWEST_SCALED: i16 = -15083;
 
 const HIGHEST_SCALED: i16 = 15083;
 
-// Whether a point goes into the old format with every field the same, or the first field that does not.
-#[derive(Clone, Copy)]
-pub enum Fit {
-    Fits,
-    Refused(Refusal),
-}
-
 // Whether every field of a point goes into the old format; the first that does not is refused, in the order return number,
 // number of returns, class, channel, overlap, near infrared, angle.
-pub fn check(point: Point) -> Fit
+pub fn check(point: Point) -> Result<(), Refusal>
     ensures { result ≡ fit_of point }
 {
     let flags = point.flags;
@@ -43,13 +35,12 @@ pub fn check(point: Point) -> Fit
 }
 
 // The same of the fields that it depends on, for a caller that has read no others.
-pub fn check_fields(flags: Flags, nir: MaybeNir, scan_angle: ScanAngle) -> Fit
+pub fn check_fields(flags: Flags, nir: Option<u16>, scan_angle: ScanAngle) -> Result<(), Refusal>
     ensures { result ≡ fields_fit flags nir scan_angle }
 {
-    let of_flags = check_flags(flags);
-    let of_nir = check_nir(nir);
-    let of_angle = check_angle(scan_angle);
-    first(of_flags, first(of_nir, of_angle))
+    check_flags(flags)?;
+    check_nir(nir)?;
+    check_angle(scan_angle)
 }
 
 // An old point made new: the flags moved, the angle scaled, no near infrared. A point with three-byte flags stays as it is.
@@ -71,18 +62,8 @@ pub fn upgraded_to(point: Point, scaled: i16) -> Point
     }
 }
 
-// The first of two answers, or the second where the first fits.
-fn first(one: Fit, other: Fit) -> Fit
-    ensures { result ≡ first_of one other }
-{
-    match one {
-        Fit::Fits => other,
-        Fit::Refused(refusal) => Fit::Refused(refusal),
-    }
-}
-
 // Whether the flags fit, by what they read; so two bytes of class 28 do not, which one old reader takes for overlap.
-fn check_flags(flags: Flags) -> Fit
+fn check_flags(flags: Flags) -> Result<(), Refusal>
     ensures { result ≡ flags_fit_of flags }
 {
     let return_number = flags.return_number();
@@ -106,25 +87,25 @@ fn check_readings(
     class: u8,
     scanner_channel: u8,
     overlap: bool,
-) -> Fit
+) -> Result<(), Refusal>
     ensures { result ≡ readings_fit return_number number_of_returns class scanner_channel overlap }
 {
     if return_number > 7 {
-        return Fit::Refused(Refusal::ReturnNumber(return_number));
+        return Err(Refusal::ReturnNumber(return_number));
     }
     if number_of_returns > 7 {
-        return Fit::Refused(Refusal::NumberOfReturns(number_of_returns));
+        return Err(Refusal::NumberOfReturns(number_of_returns));
     }
     if class > 31 {
-        return Fit::Refused(Refusal::Class(class));
+        return Err(Refusal::Class(class));
     }
     if scanner_channel > 0 {
-        return Fit::Refused(Refusal::Channel(scanner_channel));
+        return Err(Refusal::Channel(scanner_channel));
     }
     if overlap_goes(overlap, class) {
-        return Fit::Fits;
+        return Ok(());
     }
-    Fit::Refused(Refusal::Overlap(class))
+    Err(Refusal::Overlap(class))
 }
 
 // Whether an overlap flag is what both old readers take from the class.
@@ -138,35 +119,29 @@ fn overlap_goes(overlap: bool, class: u8) -> bool
 }
 
 // The near infrared fits where it is missing or 0: the old formats have none.
-fn check_nir(nir: MaybeNir) -> Fit
+fn check_nir(nir: Option<u16>) -> Result<(), Refusal>
     ensures { result ≡ nir_fit_of nir }
 {
     match nir {
-        MaybeNir::Some(n) => {
-            if n == 0 {
-                Fit::Fits
-            } else {
-                Fit::Refused(Refusal::Nir(n))
-            }
-        }
-        MaybeNir::None => Fit::Fits,
+        Some(n) if n != 0 => Err(Refusal::Nir(n)),
+        _ => Ok(()),
     }
 }
 
 // A rank is judged as the scaled angle that it is brought up to.
-fn check_angle(scan_angle: ScanAngle) -> Fit
+fn check_angle(scan_angle: ScanAngle) -> Result<(), Refusal>
     ensures { result ≡ angle_fit_of scan_angle }
 {
     check_scaled(scan_angle.to_scaled())
 }
 
-fn check_scaled(n: i16) -> Fit
+fn check_scaled(n: i16) -> Result<(), Refusal>
     ensures { result ≡ angle_fit_of (ScanAngle.Scaled n) }
 {
     if scaled_fits(n) {
-        return Fit::Fits;
+        return Ok(());
     }
-    Fit::Refused(Refusal::Angle(signed::bits16(n)))
+    Err(Refusal::Angle(n.cast_unsigned()))
 }
 
 // Whether the nearest rank is one of the standard's.
@@ -196,7 +171,7 @@ fn upgraded_old(point: Point, a: u8, b: u8, scaled: i16) -> Point
         gps_time,
         color,
         waveform,
-        nir: MaybeNir::None,
+        nir: None,
     }
 }
 

@@ -1,8 +1,11 @@
 -- Laws of the counts: how large they are, which bytes they depend on, and when they are told.
+use Rattle.refusal.specs.declared.Refusal.{Refusal}
+use Rattle.point.specs.declared.marks.Marks.{Marks}
+use Rattle.point.specs.declared.Point.{Point}
 use Prim.Native.Nat.{ℕ, zero, suc, ◌-◌, ◌*◌, ◌≤◌}
 use Rattle.std.proofs.Math.Path.{◌≡◌, refl, ap}
 use Rattle.std.proofs.Common.{◌∙◌, take-take}
-use Rattle.std.specs.Prelude.{Bool, List, ◌↔◌, eqb, take, drop}
+use Rattle.std.specs.Prelude.{Bool, List, ◌↔◌, eqb, take, drop, Result, Ok, Err}
 use Rattle.std.proofs.Math.Bool.{true, false, cond}
 use Rattle.std.proofs.Math.Nat.{suc-mul}
 use native.Mathlib.Omega.{arith}
@@ -13,30 +16,23 @@ use Rattle.refusal.specs.declared.Refusal.TheVariants.{Short}
 use Rattle.refusal.specs.Table.{wanted_of}
 use Rattle.le.specs.Laws.{drop-take}
 use Rattle.format.specs.declared.Format.{Format}
-use Rattle.format.specs.declared.FormatLen.{FormatLen}
-use Rattle.format.specs.declared.FormatLen.TheVariants as len
 use Rattle.format.specs.Fields.{record_bytes, len_of}
 use Rattle.format.specs.Laws.{when-le}
 use Rattle.format.specs.Length as format
 use Rattle.format.specs.Length.{Told, told, len-told}
-use Rattle.point.specs.declared.PointRead.{PointRead}
-use Rattle.point.specs.declared.PointRead.TheVariants as read
-use Rattle.point.specs.declared.marks.MarksRead.{MarksRead}
-use Rattle.point.specs.declared.marks.MarksRead.TheVariants as marks
 use Rattle.point.specs.Marks.{marks_read}
 use Rattle.flags.specs.Readings.{return_number_of}
 use Rattle.tally.specs.declared.ByReturn.{ByReturn}
-use Rattle.tally.specs.declared.Tally.TheVariants.{Is, Refused}
 use Rattle.tally.specs.Tally.{return_by, return_in, count_of, by_return, tally_by, tally_of}
 
 -- a record's marks tell its return number
-abbrev pub return_marked : MarksRead → ℕ
-return_marked (marks.Is m) = return_number_of m.flags
-return_marked (marks.Refused r) = 0
+abbrev pub return_marked : Result Marks Refusal → ℕ
+return_marked (Ok m) = return_number_of m.flags
+return_marked (Err r) = 0
 
-pub marks_tell : (x : PointRead) → return_marked (marks_read x) ≡ return_by x
-marks_tell (read.Is p) = refl
-marks_tell (read.Refused r) = refl
+pub marks_tell : (x : Result Point Refusal) → return_marked (marks_read x) ≡ return_by x
+marks_tell (Ok p) = refl
+marks_tell (Err r) = refl
 
 module _ (f : Format) (r : ℕ) where
   -- no more records have a return number than there are
@@ -78,22 +74,22 @@ module _ (f : Format) (n : ℕ) (s : List ℕ) where
   by_return_most = record { first = count_most f 1 n s; second = count_most f 2 n s; third = count_most f 3 n s; fourth = count_most f 4 n s; fifth = count_most f 5 n s }
 
   -- where the format's length is told, the records are counted exactly when they are all there
-  pub tally_told : (m : ℕ) → len_of f ≡ len.Is m → tally_of f n s ≡ cond (ltb (length s) (n * m)) (Refused (Short (wanted_of (n * m)))) (Is (by_return f n s))
+  pub tally_told : (m : ℕ) → len_of f ≡ Ok m → tally_of f n s ≡ cond (ltb (length s) (n * m)) (Err (Short (wanted_of (n * m)))) (Ok (by_return f n s))
   unfolding tally_of
-  tally_told m e = ap (λ (l : FormatLen). tally_by l f n s) e
+  tally_told m e = ap (λ (l : Result ℕ Refusal). tally_by l f n s) e
 
   -- the counts are told exactly where the format is not overlong and n records are there
-  pub tally_is : {x : ByReturn} → (tally_of f n s ≡ Is x) ↔ ((record_bytes f ≤ 65535) × (n * record_bytes f ≤ length s) × (x ≡ by_return f n s))
+  pub tally_is : {x : ByReturn} → (tally_of f n s ≡ Ok x) ↔ ((record_bytes f ≤ 65535) × (n * record_bytes f ≤ length s) × (x ≡ by_return f n s))
   unfolding tally_of
   tally_is {x} = (
     go (told f),
     λ (fits, there, e). tally_told (record_bytes f) (len-told f fits) ∙ rw (le-ltb (length s) (n * record_bytes f) there, e),
   )
     where
-      sized : record_bytes f ≤ 65535 → (b : Bool) → ltb (length s) (n * record_bytes f) ≡ b → cond b (Refused (Short (wanted_of (n * record_bytes f)))) (Is (by_return f n s)) ≡ Is x → (record_bytes f ≤ 65535) × (n * record_bytes f ≤ length s) × (x ≡ by_return f n s)
+      sized : record_bytes f ≤ 65535 → (b : Bool) → ltb (length s) (n * record_bytes f) ≡ b → cond b (Err (Short (wanted_of (n * record_bytes f)))) (Ok (by_return f n s)) ≡ Ok x → (record_bytes f ≤ 65535) × (n * record_bytes f ≤ length s) × (x ≡ by_return f n s)
       sized h true t e = let z : ◌≡◌ {A = ℕ} 0 1 = cc in absurd (omega arith)
       sized h false t e = (h, ltb-false _ _ t, cc)
 
-      go : {l : FormatLen} → Told f l → tally_by l f n s ≡ Is x → (record_bytes f ≤ 65535) × (n * record_bytes f ≤ length s) × (x ≡ by_return f n s)
+      go : {l : Result ℕ Refusal} → Told f l → tally_by l f n s ≡ Ok x → (record_bytes f ≤ 65535) × (n * record_bytes f ≤ length s) × (x ≡ by_return f n s)
       go (format.fits h) e = sized h (ltb (length s) (n * record_bytes f)) refl e
       go (format.over h) e = let z : ◌≡◌ {A = ℕ} 0 1 = cc in absurd (omega arith)

@@ -1,23 +1,19 @@
 -- Point records counted by return: document 02, No. 1, "the five counts by return (returns 0, 6 and 7 are counted nowhere)".
-use Rattle.std.specs.Prelude.{ℕ, zero, suc, ◌+◌, ◌*◌, cond, List, eqb, ltb, length, take, drop}
+use Rattle.refusal.specs.declared.Refusal.{Refusal}
+use Rattle.point.specs.declared.Point.{Point}
+use Rattle.std.specs.Prelude.{ℕ, zero, suc, ◌+◌, ◌*◌, cond, List, eqb, ltb, length, take, drop, Result, Ok, Err}
 use Rattle.refusal.specs.declared.Refusal.TheVariants.{Short}
 use Rattle.refusal.specs.Table.{wanted_of}
 use Rattle.format.specs.declared.Format.{Format}
-use Rattle.format.specs.declared.FormatLen.{FormatLen}
-use Rattle.format.specs.declared.FormatLen.TheVariants as len
 use Rattle.format.specs.Fields.{record_bytes, len_of}
 use Rattle.flags.specs.Readings.{return_number_of}
-use Rattle.point.specs.declared.PointRead.{PointRead}
-use Rattle.point.specs.declared.PointRead.TheVariants as read
 use Rattle.point.specs.Read.{read_of}
 use Rattle.tally.specs.declared.ByReturn.{ByReturn}
-use Rattle.tally.specs.declared.Tally.{Tally}
-use Rattle.tally.specs.declared.Tally.TheVariants.{Is, Refused}
 
 -- the return number of the point that is read; 0 where none is
-abbrev pub return_by : PointRead → ℕ
-return_by (read.Is p) = return_number_of p.flags
-return_by (read.Refused r) = 0
+abbrev pub return_by : Result Point Refusal → ℕ
+return_by (Ok p) = return_number_of p.flags
+return_by (Err r) = 0
 
 unfoldable pub return_in : Format → List ℕ → ℕ
 return_in f s = return_by (read_of f s)
@@ -39,9 +35,9 @@ by_return f n s =
     }
 
 -- 8 for a format that is overlong, then "records short (1)"; the product is exact
-abbrev pub tally_by : FormatLen → Format → ℕ → List ℕ → Tally
-tally_by (len.Refused r) f n s = Refused r
-tally_by (len.Is m) f n s = cond (ltb (length s) (n * m)) (Refused (Short (wanted_of (n * m)))) (Is (by_return f n s))
+abbrev pub tally_by : Result ℕ Refusal → Format → ℕ → List ℕ → Result ByReturn Refusal
+tally_by (Err r) f n s = Err r
+tally_by (Ok m) f n s = cond (ltb (length s) (n * m)) (Err (Short (wanted_of (n * m)))) (Ok (by_return f n s))
 
-unfoldable pub tally_of : Format → ℕ → List ℕ → Tally
+unfoldable pub tally_of : Format → ℕ → List ℕ → Result ByReturn Refusal
 tally_of f n s = tally_by (len_of f) f n s

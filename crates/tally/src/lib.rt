@@ -2,12 +2,11 @@
 #![tactic(auto)]
 
 ghost use Rattle.std.specs.Prelude.{◌≡◌, ◌*◌, ◌≤◌, cond, length};
-ghost use Rattle.format.specs.declared.FormatLen.TheVariants as len;
 ghost use Rattle.format.specs.Fields.{len_of};
 ghost use Rattle.tally.specs.Tally.{return_in, by_return, tally_of};
 
-use format::{Format, FormatLen};
-use point::marks::{Marks, MarksRead};
+use format::Format;
+use point::marks::Marks;
 use refusal::Refusal;
 
 // How many records have return number 1, 2, 3, 4 and 5; those of 0, 6 and 7 are counted nowhere.
@@ -20,31 +19,21 @@ pub struct ByReturn {
     pub fifth: u64,
 }
 
-#[derive(Clone, Copy)]
-pub enum Tally {
-    Is(ByReturn),
-    Refused(Refusal),
-}
-
 // The first n records of a slice, counted by return. Refused: 8 where a record of the format would be over 65,535 bytes, then 1 where
 // the slice has fewer than n of them.
-pub fn count(records: &[u8], format: Format, n: u64) -> Tally
+pub fn count(records: &[u8], format: Format, n: u64) -> Result<ByReturn, Refusal>
     ensures { result ≡ tally_of format n records.now }
 {
-    match format.len() {
-        FormatLen::Is(each) => {
-            if ((records.len() / (each as usize)) as u64) < n {
-                return Tally::Refused(Refusal::Short(refusal::wanted(n, each as u64)));
-            }
-            Tally::Is(count_all(records, format, each as usize, n as usize))
-        }
-        FormatLen::Refused(refusal) => Tally::Refused(refusal),
+    let each = format.len()?;
+    if ((records.len() / (each as usize)) as u64) < n {
+        return Err(Refusal::Short(refusal::wanted(n, each as u64)));
     }
+    Ok(count_all(records, format, each as usize, n as usize))
 }
 
 // n records of m bytes, all of them there, counted by return.
 fn count_all(records: &[u8], format: Format, m: usize, n: usize) -> ByReturn
-    requires { (len_of format ≡ len.Is m) × (n * m ≤ length records.now) }
+    requires { (len_of format ≡ Ok m) × (n * m ≤ length records.now) }
     ensures { result ≡ by_return format n records.now }
 {
     let mut first = 0;
@@ -52,17 +41,13 @@ fn count_all(records: &[u8], format: Format, m: usize, n: usize) -> ByReturn
     let mut third = 0;
     let mut fourth = 0;
     let mut fifth = 0;
-    let mut at = 0;
-    let mut left = n;
-    while 0 < left {
-        let r = return_in(&records[at..at + m], format);
+    for record in records[..n * m].chunks_exact(m) {
+        let r = return_in(record, format);
         first += one_if(r == 1);
         second += one_if(r == 2);
         third += one_if(r == 3);
         fourth += one_if(r == 4);
         fifth += one_if(r == 5);
-        at += m;
-        left -= 1;
     }
     ByReturn {
         first,
@@ -77,7 +62,7 @@ fn count_all(records: &[u8], format: Format, m: usize, n: usize) -> ByReturn
 fn return_in(record: &[u8], format: Format) -> u8
     ensures { result ≡ return_in format «record».now }
 {
-    let MarksRead::Is(marks) = Marks::read_from(record, format) else {
+    let Ok(marks) = Marks::read_from(record, format) else {
         return 0;
     };
     let flags = marks.flags;

@@ -1,8 +1,8 @@
 // Text fields, which end at their first zero: whether anything else stands after it. Added by document 02, No. 12.
 #![tactic(auto)]
 
-ghost use Rattle.std.specs.Prelude.{◌≡◌, true, take, drop};
-ghost use Rattle.text_rest.specs.Rest.{rest_after, rest_of};
+ghost use Rattle.std.specs.Prelude.{◌≡◌, take, drop};
+ghost use Rattle.text_rest.specs.Rest.{rest_of};
 
 // Whether the text of so many bytes at this place of s has a byte after its first zero that is not zero; past the end of s there is
 // nothing.
@@ -30,31 +30,5 @@ fn text_at(s: &[u8], at: u64, width: usize) -> &[u8]
 fn rest_in(text: &[u8]) -> bool
     ensures { result ≡ rest_of text.now }
 {
-    has_other(text, end_of(text))
-}
-
-// Where the first zero of a text stands; without one, its length.
-fn end_of(text: &[u8]) -> usize
-    ensures { rest_after true (drop result text.now) ≡ rest_of text.now }
-{
-    for i in 0..text.len() {
-        if text[i] == 0 {
-            return i;
-        }
-    }
-    text.len()
-}
-
-// Whether a byte that is not zero stands at this place or after it.
-fn has_other(text: &[u8], from: usize) -> bool
-    ensures { result ≡ rest_after true (drop from text.now) }
-{
-    let mut i = from;
-    while i < text.len() {
-        if text[i] != 0 {
-            return true;
-        }
-        i += 1;
-    }
-    false
+    text.iter().skip_while(|b| **b != 0).any(|b| *b != 0)
 }

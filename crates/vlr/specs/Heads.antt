@@ -1,11 +1,11 @@
 -- A head that was read is written as it stood, and one that was written is read again.
+use Rattle.std.specs.Prelude.{Ok}
 use Rattle.std.specs.Prelude.{ℕ, ◌+◌, ◌^◌, ◌≤◌, ◌<◌, ◌≡◌, Bool, true, false, List, ◌++◌, length, take, drop}
 use Rattle.std.proofs.Math.Path.{refl}
 use Rattle.std.proofs.Common.{ap, ◌∙◌, append_assoc, arith, length-append, length-drop, take-add, length-take-le}
 use Rattle.std.proofs.Math.Seq.{take-append_seam, drop-append_seam}
 use Rattle.le.specs.Le.{Bytes as IsBytes}
 use Rattle.le.specs.Laws.{num-lt, bytes-num, num-bytes}
-use Rattle.vlr.specs.declared.Extent.TheVariants.{Bytes}
 use Rattle.vlr.specs.declared.RecordLength.{RecordLength}
 use Rattle.vlr.specs.declared.RecordLength.TheVariants as kind
 use Rattle.vlr.specs.declared.Vlr.{Vlr}
@@ -13,8 +13,8 @@ use Rattle.fields.specs.Table.{part, All, none, ◌&◌}
 use Rattle.fields.specs.Laws.{every, joined-parts, parts-joined}
 use Rattle.vlr.specs.Layout.{Field, Reserved, UserId, RecordId, LengthAfterHeader, Description, fields, width, place, head_size}
 use Rattle.vlr.specs.Places.{places_follow, head-sizes, description_last}
-use Rattle.vlr.specs.Vlr.{data_length, is_extended, is_evlr, bytes_in, length_of, vlr_of, read_of, data_of, length_bytes, field_bytes, head_bytes, Typed}
-use Rattle.vlr.specs.Laws.{Whole, head-wide, length-head, read_whole}
+use Rattle.vlr.specs.Vlr.{data_length, is_extended, is_evlr, bytes_in, length_of, vlr_of, extent_of, read_of, data_of, length_bytes, field_bytes, head_bytes, Typed}
+use Rattle.vlr.specs.Laws.{Whole, head-wide, length-head, takes, read_whole}
 
 pub kind_read : (extended : Bool) (s : List ℕ) → is_extended (length_of extended s) ≡ extended
 kind_read true s = refl
@@ -85,7 +85,7 @@ head_again v rest w =
 
 -- what is read of a head, as many bytes as it states and whatever follows
 pub again : (extended : Bool) (v : Vlr) (content rest s : List ℕ) → is_evlr v ≡ extended → Typed v → length content ≡ data_length v.record_length_after_header → s ≡ (head_bytes v ++ content) ++ rest
-    → (read_of extended s ≡ record { answer = Bytes (length (head_bytes v ++ content)); vlr = v }) × (data_of extended s ≡ content)
+    → (read_of extended s ≡ Ok v) × (extent_of extended s ≡ Ok (length (head_bytes v ++ content))) × (data_of extended s ≡ content)
 unfolding vlr_of
 again extended v content rest s k w l e =
     let head : length (head_bytes v) ≡ head_size extended = length-head v w.user_id w.description ∙ ap head_size k in
@@ -93,7 +93,10 @@ again extended v content rest s k w l e =
     let stated : length_of extended s ≡ v.record_length_after_header = ap (λ (x : Vlr). x.record_length_after_header) same in
     let size : length (head_bytes v ++ content) ≡ length (head_bytes v) + length content = length-append (head_bytes v) content in
     let long : length s ≡ length (head_bytes v ++ content) + length rest = ap length e ∙ length-append (head_bytes v ++ content) rest in
-    let r = read_whole extended s (length (head_bytes v ++ content)) (record { size = rw stated (omega arith); there = omega arith }) in (
-      r.0 ∙ ap (λ (x : Vlr). record { answer = Bytes (length (head_bytes v ++ content)); vlr = x }) same,
+    let n = length (head_bytes v ++ content) in
+    let w : Whole extended s n = record { size = rw stated (omega arith); there = omega arith } in
+    let r = read_whole extended s n w in (
+      r.0 ∙ ap Ok same,
+      takes extended s n w,
       r.1 ∙ rw (stated, e, append_assoc, ← head, drop-append_seam, ← l) (take-append_seam content rest),
     )

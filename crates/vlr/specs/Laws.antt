@@ -1,4 +1,5 @@
 -- Laws of the answers: when a record is all there, and what is read then; what a write that was not refused says.
+use Rattle.std.specs.Prelude.{Result, Ok, Err}
 use Rattle.std.specs.Prelude.{ℕ, ◌+◌, ◌≤◌, ◌<◌, Bool, List, ◌++◌, take, drop, leb, eqb}
 use Rattle.std.proofs.Math.Path.{◌≡◌, refl, ap}
 use Rattle.std.proofs.Common.{sym, ◌∙◌, arith, length-drop}
@@ -9,23 +10,21 @@ use Rattle.std.proofs.lemmas.List.Edits.{sets}
 use Rattle.std.proofs.Math.Seq.{length-take-le}
 use Rattle.std.proofs.Math.Dec.{ltb}
 use Rattle.le.specs.Laws.{length-bytes, num-take}
+use Rattle.refusal.specs.Refused.{ok_same, err_same}
 use Rattle.refusal.specs.declared.Refusal.{Refusal}
 use Rattle.refusal.specs.declared.Refusal.TheVariants.{Short, VlrDataLength}
-use Rattle.lent.specs.declared.Wrote.TheVariants as wrote
 use Rattle.lent.specs.Front.{front_of}
 use Rattle.lent.specs.Laws.{passed, answered}
-use Rattle.vlr.specs.declared.Extent.TheVariants.{Bytes, Refused}
 use Rattle.vlr.specs.declared.RecordLength.{RecordLength}
 use Rattle.vlr.specs.declared.RecordLength.TheVariants as kind
-use Rattle.vlr.specs.declared.StatedLength.TheVariants as stated
 use Rattle.vlr.specs.declared.Vlr.{Vlr}
 use Rattle.fields.specs.Table.{part, none, ◌&◌, Stored}
 use Rattle.fields.specs.Laws.{Wide, length-joined, stored-joined}
 use Rattle.vlr.specs.Layout.{LengthAfterHeader, fields, width, place, head_size}
 use Rattle.vlr.specs.Places.{places_follow, head-sizes, head-least}
-use Rattle.vlr.specs.Vlr.{data_length, is_evlr, length_of, stated_of, vlr_of, record_size, extent_of, read_of, data_of, field_bytes, head_bytes, written_of}
+use Rattle.vlr.specs.Vlr.{data_length, is_evlr, length_of, stated_of, vlr_of, record_size, extent_of, read_by, read_of, data_of, field_bytes, head_bytes, written_of}
 
-neither : (a b : Bool) (x y : Refusal) (m : ℕ) {n : ℕ} → cond a (Refused x) (cond b (Refused y) (Bytes m)) ≡ Bytes n → (b ≡ false) × (n ≡ m)
+neither : (a b : Bool) (x y : Refusal) (m : ℕ) {n : ℕ} → cond a (Err x) (cond b (Err y) (Ok m)) ≡ Ok n → (b ≡ false) × (n ≡ m)
 neither true b x y m p = let z : ◌≡◌ {A = ℕ} 0 1 = cc in absurd (omega arith)
 neither false true x y m p = let z : ◌≡◌ {A = ℕ} 0 1 = cc in absurd (omega arith)
 neither false false x y m p = (refl, cc)
@@ -48,7 +47,7 @@ pub record Whole (extended : Bool) (s : List ℕ) (n : ℕ) : Type 0 where
   pub there : n ≤ length s
 
 -- a record whose bytes are answered is whole
-pub accepted : (extended : Bool) (s : List ℕ) {n : ℕ} → extent_of extended s ≡ Bytes n → Whole extended s n
+pub accepted : (extended : Bool) (s : List ℕ) {n : ℕ} → extent_of extended s ≡ Ok n → Whole extended s n
 unfolding extent_of record_size
 accepted extended s p =
     let q = neither (ltb (length s) (head_size extended)) (ltb (length s) (record_size extended s)) _ _ _ p in
@@ -74,7 +73,7 @@ module _ (v : Vlr) (content d : List ℕ) where
   unfolding written_of
   stated-length e = rw (eq-eqb _ _ e)
 
-  pub other_length : (length content ≡ data_length v.record_length_after_header → ⊥) → written_of v content d ≡ (wrote.Refused (VlrDataLength (data_length v.record_length_after_header)), d)
+  pub other_length : (length content ≡ data_length v.record_length_after_header → ⊥) → written_of v content d ≡ (Err (VlrDataLength (data_length v.record_length_after_header)), d)
   unfolding written_of
   other_length n = rw (ne_eqb _ _ n)
 
@@ -84,7 +83,7 @@ length_cut true s n h = ap kind.Evlr (num-take 8 20 s n (omega arith))
 length_cut false s n h = ap kind.Vlr (num-take 2 20 s n (omega arith))
 
 -- the answer for a record that is whole
-pub takes : (extended : Bool) (s : List ℕ) (n : ℕ) → Whole extended s n → extent_of extended s ≡ Bytes n
+pub takes : (extended : Bool) (s : List ℕ) (n : ℕ) → Whole extended s n → extent_of extended s ≡ Ok n
 unfolding extent_of record_size
 takes extended s n w =
     let head : head_size extended ≤ length s = omega arith in
@@ -93,52 +92,77 @@ takes extended s n w =
 
 -- and so the answer for one that ends in the bytes, or does not
 module _ (extended : Bool) (s : List ℕ) where
-  pub all_there : record_size extended s ≤ length s → extent_of extended s ≡ Bytes (record_size extended s)
+  pub all_there : record_size extended s ≤ length s → extent_of extended s ≡ Ok (record_size extended s)
   all_there h = takes extended s (record_size extended s) (record { size = record_size_lem extended s; there = h })
 
-  pub cut_off : {r : Refusal} → extent_of extended s ≡ Refused r → length s < record_size extended s
+  pub cut_off : {r : Refusal} → extent_of extended s ≡ Err r → length s < record_size extended s
   cut_off {r} p = go (ltb (length s) (record_size extended s)) refl
     where
       go : (b : Bool) → ltb (length s) (record_size extended s) ≡ b → length s < record_size extended s
       go true q = ltb-true _ _ q
       go false q =
-          let there : extent_of extended s ≡ Bytes (record_size extended s) = all_there (ltb-false _ _ q) in
+          let there : extent_of extended s ≡ Ok (record_size extended s) = all_there (ltb-false _ _ q) in
           let z : ◌≡◌ {A = ℕ} 0 1 = cc in
           absurd (omega arith)
 
   -- a length is stated where the head is there, and else refused
-  pub stated_is : {l : RecordLength} → stated_of extended s ≡ stated.Is l → (head_size extended ≤ length s) × (length_of extended s ≡ l)
+  pub stated_is : {l : RecordLength} → stated_of extended s ≡ Ok l → (head_size extended ≤ length s) × (length_of extended s ≡ l)
   unfolding stated_of
   stated_is {l} p = go (ltb (length s) (head_size extended)) refl p
     where
-      go : (b : Bool) → ltb (length s) (head_size extended) ≡ b → cond b (stated.Refused (Short (head_size extended))) (stated.Is (length_of extended s)) ≡ stated.Is l → (head_size extended ≤ length s) × (length_of extended s ≡ l)
+      go : (b : Bool) → ltb (length s) (head_size extended) ≡ b → cond b (Err (Short (head_size extended))) (Ok (length_of extended s)) ≡ Ok l → (head_size extended ≤ length s) × (length_of extended s ≡ l)
       go true q h = let z : ◌≡◌ {A = ℕ} 0 1 = cc in absurd (omega arith)
       go false q h = (ltb-false _ _ q, cc)
 
-  pub stated-refused : {r : Refusal} → stated_of extended s ≡ stated.Refused r → length s < head_size extended
+  pub stated-refused : {r : Refusal} → stated_of extended s ≡ Err r → length s < head_size extended
   unfolding stated_of
   stated-refused {r} p = go (ltb (length s) (head_size extended)) refl p
     where
-      go : (b : Bool) → ltb (length s) (head_size extended) ≡ b → cond b (stated.Refused (Short (head_size extended))) (stated.Is (length_of extended s)) ≡ stated.Refused r → length s < head_size extended
+      go : (b : Bool) → ltb (length s) (head_size extended) ≡ b → cond b (Err (Short (head_size extended))) (Ok (length_of extended s)) ≡ Err r → length s < head_size extended
       go true q h = ltb-true _ _ q
       go false q h = let z : ◌≡◌ {A = ℕ} 0 1 = cc in absurd (omega arith)
 
-  -- a record that ends in the bytes, cut from them, is read whole
-  pub read_cut : record_size extended s ≤ length s → (read_of extended (take (record_size extended s) s)).answer ≡ Bytes (record_size extended s)
-  unfolding read_of
+  -- a record that ends in the bytes, cut from them, is whole
+  pub read_cut : record_size extended s ≤ length s → extent_of extended (take (record_size extended s) s) ≡ Ok (record_size extended s)
   read_cut h =
       let n = record_size extended s in
       let size = record_size_lem extended s ∙ ap (λ (l : RecordLength). head_size extended + data_length l) (sym (length_cut extended s n (omega (arith, head-within extended s)))) in
       takes extended (take n s) n (record { size = size; there = omega (arith, length-take-le n s h) })
 
-pub read_accepted : (extended : Bool) (s : List ℕ) {n : ℕ} → (read_of extended s).answer ≡ Bytes n → Whole extended s n
-unfolding read_of
-read_accepted extended s p = accepted extended s p
+  -- it is read where its bytes are told, and refused as they are
+  pub read_told : {n : ℕ} → extent_of extended s ≡ Ok n → read_of extended s ≡ Ok (vlr_of extended s)
+  unfolding read_of
+  read_told p = ap (read_by (vlr_of extended s)) p
+
+  pub read_refused : {r : Refusal} → extent_of extended s ≡ Err r → read_of extended s ≡ Err r
+  unfolding read_of
+  read_refused p = ap (read_by (vlr_of extended s)) p
+
+  -- and so a record that is read is whole
+  pub read_accepted : {v : Vlr} → read_of extended s ≡ Ok v → (extent_of extended s ≡ Ok (record_size extended s)) × (v ≡ vlr_of extended s)
+  read_accepted {v} e = go (extent_of extended s) refl
+    where
+      go : (x : Result ℕ Refusal) → extent_of extended s ≡ x → (extent_of extended s ≡ Ok (record_size extended s)) × (v ≡ vlr_of extended s)
+      go (Ok n) p = let w = accepted extended s p in (p ∙ ap Ok (omega (arith, w.size, record_size_lem extended s)), ok_same (sym e ∙ read_told p))
+      go (Err r) p =
+          let is : read_of extended s ≡ Err r = read_refused p in
+          let z : ◌≡◌ {A = ℕ} 0 1 = cc in
+          absurd (omega arith)
+
+  pub refused_so : {r : Refusal} → read_of extended s ≡ Err r → extent_of extended s ≡ Err r
+  refused_so {r} e = go (extent_of extended s) refl
+    where
+      go : (x : Result ℕ Refusal) → extent_of extended s ≡ x → extent_of extended s ≡ Err r
+      go (Ok n) p =
+          let is : read_of extended s ≡ Ok (vlr_of extended s) = read_told p in
+          let z : ◌≡◌ {A = ℕ} 0 1 = cc in
+          absurd (omega arith)
+      go (Err y) p = p ∙ ap Err (err_same (sym (read_refused p) ∙ e))
 
 -- what is answered of a whole record
-pub read_whole : (extended : Bool) (s : List ℕ) (n : ℕ) → Whole extended s n → (read_of extended s ≡ record { answer = Bytes n; vlr = vlr_of extended s }) × (data_of extended s ≡ part (data_length (length_of extended s)) (head_size extended) s)
-unfolding read_of data_of
-read_whole extended s n w = (rw (takes extended s n w), rw (takes extended s n w))
+pub read_whole : (extended : Bool) (s : List ℕ) (n : ℕ) → Whole extended s n → (read_of extended s ≡ Ok (vlr_of extended s)) × (data_of extended s ≡ part (data_length (length_of extended s)) (head_size extended) s)
+unfolding data_of
+read_whole extended s n w = (read_told extended s (takes extended s n w), rw (takes extended s n w))
 
 pub length-data : (extended : Bool) (s : List ℕ) (n : ℕ) → Whole extended s n → length (part (data_length (length_of extended s)) (head_size extended) s) ≡ data_length (length_of extended s)
 length-data extended s n w = length-take-le _ _ (simp length-drop (omega arith))
@@ -149,7 +173,7 @@ pub record Written (v : Vlr) (content d d' : List ℕ) (n : ℕ) : Type 0 where
   pub size : n ≡ length (head_bytes v ++ content)
   pub left : d' ≡ (head_bytes v ++ content) ++ drop (length (head_bytes v ++ content)) d
 
-pub written : (v : Vlr) (content d d' : List ℕ) {n : ℕ} → written_of v content d ≡ (wrote.Bytes n, d') → Written v content d d' n
+pub written : (v : Vlr) (content d d' : List ℕ) {n : ℕ} → written_of v content d ≡ (Ok n, d') → Written v content d d' n
 unfolding written_of
 written v content d d' p =
     let stated = passed (eqb (length content) (data_length v.record_length_after_header)) _ _ _ p in

@@ -1,19 +1,14 @@
 -- What reading and writing a VLR or an EVLR answers, from the table of Layout and document 01.
+use Rattle.std.specs.Prelude.{Result, Ok, Err}
+use Rattle.refusal.specs.declared.Refusal.{Refusal}
 use Rattle.std.specs.Prelude.{ℕ, ◌+◌, ◌^◌, ◌<◌, ◌≡◌, Bool, true, false, cond, List, [], ◌++◌, length, replicate, ltb, eqb}
 use Rattle.le.specs.Le.{num, bytes}
 use Rattle.refusal.specs.declared.Refusal.TheVariants.{Short, VlrDataLength}
 use Rattle.refusal.specs.Table.{wanted_of}
-use Rattle.lent.specs.declared.Wrote.{Wrote}
-use Rattle.lent.specs.declared.Wrote.TheVariants as wrote
 use Rattle.lent.specs.Front.{front_of}
 use Rattle.vlr.specs.declared.RecordLength.{RecordLength}
 use Rattle.vlr.specs.declared.RecordLength.TheVariants as kind
 use Rattle.vlr.specs.declared.Vlr.{Vlr}
-use Rattle.vlr.specs.declared.StatedLength.{StatedLength}
-use Rattle.vlr.specs.declared.StatedLength.TheVariants as stated
-use Rattle.vlr.specs.declared.Extent.{Extent}
-use Rattle.vlr.specs.declared.Extent.TheVariants as extent
-use Rattle.vlr.specs.declared.VlrRead.{VlrRead}
 use Rattle.fields.specs.Table.{joined, part}
 use Rattle.vlr.specs.Layout.{Field, Reserved, UserId, RecordId, LengthAfterHeader, Description, fields, width, place, head_size}
 
@@ -42,8 +37,8 @@ length_of false s = kind.Vlr (number_in false LengthAfterHeader s)
 length_of true s = kind.Evlr (number_in true LengthAfterHeader s)
 
 -- the same, or refusal 1 with the head's size where the head is not all there
-unfoldable pub stated_of : Bool → List ℕ → StatedLength
-stated_of extended s = cond (ltb (length s) (head_size extended)) (stated.Refused (Short (head_size extended))) (stated.Is (length_of extended s))
+unfoldable pub stated_of : Bool → List ℕ → Result RecordLength Refusal
+stated_of extended s = cond (ltb (length s) (head_size extended)) (Err (Short (head_size extended))) (Ok (length_of extended s))
 
 -- the record whose head is at the start of s
 unfoldable pub vlr_of : Bool → List ℕ → Vlr
@@ -72,19 +67,24 @@ unfoldable pub record_size : Bool → List ℕ → ℕ
 record_size extended s = head_size extended + data_length (length_of extended s)
 
 -- refusal 1 where the head, and then where the whole record is not there; else its bytes
-unfoldable pub extent_of : Bool → List ℕ → Extent
+unfoldable pub extent_of : Bool → List ℕ → Result ℕ Refusal
 extent_of extended s =
-    cond (ltb (length s) (head_size extended)) (extent.Refused (Short (head_size extended)))
-    (cond (ltb (length s) (record_size extended s)) (extent.Refused (Short (wanted_of (record_size extended s))))
-    (extent.Bytes (record_size extended s)))
+    cond (ltb (length s) (head_size extended)) (Err (Short (head_size extended)))
+    (cond (ltb (length s) (record_size extended s)) (Err (Short (wanted_of (record_size extended s))))
+    (Ok (record_size extended s)))
 
 -- the first where the record is all there, the second where it is refused
-abbrev pub when_whole : {A : Type 0} → Extent → A → A → A
-when_whole (extent.Bytes n) x y = x
-when_whole (extent.Refused r) x y = y
+abbrev pub when_whole : {A : Type 0} → Result ℕ Refusal → A → A → A
+when_whole (Ok n) x y = x
+when_whole (Err r) x y = y
 
-unfoldable pub read_of : Bool → List ℕ → VlrRead
-read_of extended s = record { answer = extent_of extended s; vlr = when_whole (extent_of extended s) (vlr_of extended s) no_vlr }
+-- the record where it is all there, or what it is refused for
+abbrev pub read_by : Vlr → Result ℕ Refusal → Result Vlr Refusal
+read_by v (Ok n) = Ok v
+read_by v (Err r) = Err r
+
+unfoldable pub read_of : Bool → List ℕ → Result Vlr Refusal
+read_of extended s = read_by (vlr_of extended s) (extent_of extended s)
 
 -- "The data is shown as that part of the caller's bytes", "empty on refusal"
 unfoldable pub data_of : Bool → List ℕ → List ℕ
@@ -107,10 +107,10 @@ unfoldable pub head_bytes : Vlr → List ℕ
 head_bytes v = joined (field_bytes v) fields
 
 -- refusal 24 where the data has not the stated length; else the head and the data go to the front of d, or refusal 22
-unfoldable pub written_of : Vlr → List ℕ → List ℕ → Wrote × List ℕ
+unfoldable pub written_of : Vlr → List ℕ → List ℕ → Result ℕ Refusal × List ℕ
 written_of v content d =
     let wanted = data_length v.record_length_after_header in
-    cond (eqb (length content) wanted) (front_of (head_bytes v ++ content) d) (wrote.Refused (VlrDataLength wanted), d)
+    cond (eqb (length content) wanted) (front_of (head_bytes v ++ content) d) (Err (VlrDataLength wanted), d)
 
 -- what the Rust's types say of a record: numbers in their widths, arrays of their lengths
 pub record Typed (v : Vlr) : Type 0 where

@@ -7,28 +7,27 @@ ghost use Rattle.fields.specs.Table.{Stored};
 ghost use Rattle.vlr.specs.Layout.{fields, width, place};
 ghost use Rattle.vlr.specs.Vlr.{is_extended, is_evlr, field_bytes, written_of};
 
-use lent::Wrote;
 use refusal::Refusal;
 use vlr::{RecordLength, Vlr};
 
 // Writes the head and then `data` to the front of `dst`, answers their bytes and leaves what lies past them. Refuses
 // with 24 where `data` has not the stated length, then with 22; a refusal changes nothing.
-pub fn write_to(vlr: Vlr, data: &[u8], dst: &mut [u8]) -> Wrote
+pub fn write_to(vlr: Vlr, data: &[u8], dst: &mut [u8]) -> Result<usize, Refusal>
     ensures { (result, dst.new) ≡ written_of vlr «data».now dst.old }
 {
     let stated = vlr.record_length_after_header;
     let wanted = stated.to_u64();
     if data.len() as u64 != wanted {
-        return Wrote::Refused(Refusal::VlrDataLength(wanted));
+        return Err(Refusal::VlrDataLength(wanted));
     }
     let head = vlr::head_size(is_extended(stated));
     let size = head + data.len();
     if dst.len() < size {
-        return Wrote::Refused(Refusal::NoRoom(size as u64));
+        return Err(Refusal::NoRoom(size as u64));
     }
     write_head(vlr, dst);
-    lent::put(&mut dst[head..], data);
-    Wrote::Bytes(size)
+    dst[head..size].copy_from_slice(data);
+    Ok(size)
 }
 
 // Whether it is the length of an EVLR.

@@ -1,4 +1,8 @@
 -- A walker's answers one after another.
+use Rattle.std.specs.Prelude.{Result, Ok, Err}
+use Rattle.refusal.specs.Refused.{at_record}
+use Rattle.point.specs.declared.Point.{Point}
+use Rattle.refusal.specs.declared.Refused.{Refused}
 use Prim.Native.Nat.{ℕ, zero, suc, ◌+◌, ◌*◌, ◌-◌, ◌≤◌, ◌<◌}
 use Rattle.std.specs.Prelude.{◌≡◌, refl, true, false, List, drop}
 use Rattle.std.proofs.Math.Path.{ap}
@@ -8,13 +12,9 @@ use borrow.Author.Tests.{le-leb, lt-ltb}
 use Rattle.std.proofs.Math.ListN.{length, take}
 use Rattle.refusal.specs.declared.Refusal.TheVariants.{Index}
 use Rattle.format.specs.Fields.{record_bytes}
-use Rattle.point.specs.declared.PointRead.TheVariants.{Is}
 use Rattle.point.specs.Read.{point_of, read_of}
 use Rattle.point.specs.Answer.{read_whole}
-use Rattle.walker.specs.declared.Start.TheVariants as start
 use Rattle.walker.specs.declared.Place.{Place}
-use Rattle.walker.specs.declared.Walked.{Walked}
-use Rattle.walker.specs.declared.Walked.TheVariants.{Point, Refused}
 use Rattle.walker.specs.declared.Walker.{Walker}
 use Rattle.walker.specs.Walk.{has_next, record_of, refusal_of, after, took_of, next_of}
 use Rattle.walker.specs.Laws.{next_says}
@@ -24,7 +24,7 @@ abbrev pub walked_on : ℕ → Walker → Walker
 walked_on zero w = w
 walked_on (suc n) w = walked_on n (next_of w).1
 
-abbrev pub answer_of : ℕ → Walker → Walked
+abbrev pub answer_of : ℕ → Walker → Result Point Refused
 answer_of n w = (next_of (walked_on n w)).0
 
 -- the n-th record after a walker's place, counted from 0
@@ -35,7 +35,7 @@ nth_record n w =
 
 -- a walker whose records, as many as are left, lie in its file: what a file that is accepted gives
 pub record Ready (w : Walker) : Type 0 where
-  pub accepted : w.place.start ≡ start.Accepted
+  pub accepted : w.place.start ≡ (Ok tt)
   pub fits : record_bytes w.place.format ≤ 65535
   pub room : w.place.at + w.place.left * record_bytes w.place.format ≤ length w.file.now
 
@@ -47,10 +47,10 @@ module _ (w : Walker) (none : has_next w.file.now w.place ≡ false) where
 
   pub stays : (n : ℕ) → walked_on n w ≡ w
   stays zero = refl
-  stays (suc n) = ap (λ (x : Walked × Walker). walked_on n x.1) nothing ∙ stays n
+  stays (suc n) = ap (λ (x : Result Point Refused × Walker). walked_on n x.1) nothing ∙ stays n
 
   pub repeats : (n : ℕ) → answer_of n w ≡ refusal_of w.place
-  repeats n = ap (λ (x : Walker). (next_of x).0) (stays n) ∙ ap (λ (x : Walked × Walker). x.0) nothing
+  repeats n = ap (λ (x : Walker). (next_of x).0) (stays n) ∙ ap (λ (x : Result Point Refused × Walker). x.0) nothing
 
 -- k records are one and k - 1 more
 one_more : (k m : ℕ) → 0 < k → k * m ≡ m + (k - 1) * m
@@ -76,9 +76,9 @@ module _ (w : Walker) (r : Ready w) (left : 0 < w.place.left) where
       let e : w.place.at ≡ w.place.at + 0 * m = omega (arith, zero-mul m) in
       (next_says w.file.now w.place has).bytes ∙ ap (λ (k : ℕ). take m (drop k w.file.now)) e
 
-  given : next_of w ≡ (Point (point_of w.place.format (nth_record 0 w)), moved w)
+  given : next_of w ≡ (Ok (point_of w.place.format (nth_record 0 w)), moved w)
   unfolding next_of took_of moved
-  given = rw has (λ i. (Point (point_of w.place.format (first i)), moved w))
+  given = rw has (λ i. (Ok (point_of w.place.format (first i)), moved w))
 
   ready : Ready (moved w)
   unfolding moved after
@@ -93,18 +93,18 @@ module _ (w : Walker) (r : Ready w) (left : 0 < w.place.left) where
       ap (λ (k : ℕ). take m (drop k w.file.now)) e
 
 -- the n-th answer of a ready walker is read from the n-th record
-pub gives : (n : ℕ) (w : Walker) → Ready w → n < w.place.left → answer_of n w ≡ Point (point_of w.place.format (nth_record n w))
+pub gives : (n : ℕ) (w : Walker) → Ready w → n < w.place.left → answer_of n w ≡ Ok (point_of w.place.format (nth_record n w))
 unfolding moved after
-gives zero w r h = ap (λ (x : Walked × Walker). x.0) (given w r h)
+gives zero w r h = ap (λ (x : Result Point Refused × Walker). x.0) (given w r h)
 gives (suc n) w r h =
     let one : 0 < w.place.left = omega arith in
     let fewer : n < w.place.left - 1 = omega arith in
-    ap (λ (x : Walked × Walker). answer_of n x.1) (given w r one)
+    ap (λ (x : Result Point Refused × Walker). answer_of n x.1) (given w r one)
     ∙ gives n (moved w) (ready w r one) fewer
-    ∙ ap (λ (l : List ℕ). Point (point_of w.place.format l)) (sym (shifted w r one n))
+    ∙ ap (λ (l : List ℕ). Ok (point_of w.place.format l)) (sym (shifted w r one n))
 
 -- which the point reader reads
-pub reads : (n : ℕ) (w : Walker) → Ready w → n < w.place.left → read_of w.place.format (nth_record n w) ≡ Is (point_of w.place.format (nth_record n w))
+pub reads : (n : ℕ) (w : Walker) → Ready w → n < w.place.left → read_of w.place.format (nth_record n w) ≡ Ok (point_of w.place.format (nth_record n w))
 reads n w r h =
     let m = record_bytes w.place.format in
     let k = w.place.at + n * m in
@@ -118,24 +118,24 @@ shows zero w r h = first w r h
 shows (suc n) w r h =
     let one : 0 < w.place.left = omega arith in
     let fewer : n < w.place.left - 1 = omega arith in
-    ap (λ (x : Walked × Walker). record_of w.file.now (walked_on n x.1).place) (given w r one)
+    ap (λ (x : Result Point Refused × Walker). record_of w.file.now (walked_on n x.1).place) (given w r one)
     ∙ shows n (moved w) (ready w r one) fewer
     ∙ sym (shifted w r one n)
 
 -- what a walker of an accepted file answers where there is no next record
-pub by_count : (p : Place) → p.start ≡ start.Accepted → refusal_of p ≡ Refused (Index p.count) 0
+pub by_count : (p : Place) → p.start ≡ (Ok tt) → refusal_of p ≡ Err (at_record (Index p.count) 0)
 unfolding refusal_of
 by_count p e = rw e
 
 -- and after the last, k records on, a ready walker has none
-ends_after : (k n : ℕ) (w : Walker) → Ready w → w.place.left ≡ k → k ≤ n → answer_of n w ≡ Refused (Index w.place.count) 0
+ends_after : (k n : ℕ) (w : Walker) → Ready w → w.place.left ≡ k → k ≤ n → answer_of n w ≡ Err (at_record (Index w.place.count) 0)
 unfolding moved after has_next
 ends_after zero n w r e h = repeats w (rw (r.accepted, le-leb _ _ r.fits, e)) n ∙ by_count w.place r.accepted
 ends_after (suc k) zero w r e h = absurd (omega arith)
 ends_after (suc k) (suc n) w r e h =
     let one : 0 < w.place.left = omega arith in
     let last : w.place.left - 1 ≡ k = omega arith in
-    ap (λ (x : Walked × Walker). answer_of n x.1) (given w r one) ∙ ends_after k n (moved w) (ready w r one) last (omega arith)
+    ap (λ (x : Result Point Refused × Walker). answer_of n x.1) (given w r one) ∙ ends_after k n (moved w) (ready w r one) last (omega arith)
 
-pub ends : (n : ℕ) (w : Walker) → Ready w → w.place.left ≤ n → answer_of n w ≡ Refused (Index w.place.count) 0
+pub ends : (n : ℕ) (w : Walker) → Ready w → w.place.left ≤ n → answer_of n w ≡ Err (at_record (Index w.place.count) 0)
 ends n w r h = ends_after w.place.left n w r refl h

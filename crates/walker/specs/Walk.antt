@@ -1,13 +1,13 @@
 -- A walker's answers: document 01, "A point walker over the lent file ..".
+use Rattle.std.specs.Prelude.{Result, Ok, Err}
+use Rattle.refusal.specs.Refused.{at_record}
+use Rattle.refusal.specs.declared.Refused.{Refused}
+use Rattle.point.specs.declared.Point.{Point}
 use Rattle.std.specs.Prelude.{ℕ, ◌+◌, ◌-◌, Bool, true, false, cond, ◌&&◌, List, [], ltb, leb, length, take, drop}
 use Rattle.refusal.specs.declared.Refusal.TheVariants.{Index}
 use Rattle.format.specs.Fields.{record_bytes}
 use Rattle.point.specs.Read.{point_of}
-use Rattle.walker.specs.declared.Start.{Start}
-use Rattle.walker.specs.declared.Start.TheVariants as start
 use Rattle.walker.specs.declared.Place.{Place}
-use Rattle.walker.specs.declared.Walked.{Walked}
-use Rattle.walker.specs.declared.Walked.TheVariants.{Point, Refused}
 use Rattle.walker.specs.declared.Took.{Took}
 use Rattle.walker.specs.declared.Walker.{Walker}
 
@@ -16,9 +16,9 @@ unfoldable pub whole_at : ℕ → ℕ → List ℕ → List ℕ
 whole_at at n s = cond (leb (at + n) (length s)) (take n (drop at s)) []
 
 -- "starts with the file check"
-abbrev pub accepted : Start → Bool
-accepted start.Accepted = true
-accepted (start.Refused r n) = false
+abbrev pub accepted : Result Unit Refused → Bool
+accepted (Ok tt) = true
+accepted (Err err) = false
 
 -- whether a walker has a next record: none at the end, and none with "an overlong format or a next record outside its file"
 unfoldable pub has_next : List ℕ → Place → Bool
@@ -31,11 +31,11 @@ unfoldable pub record_of : List ℕ → Place → List ℕ
 record_of s p = cond (has_next s p) (take (record_bytes p.format) (drop p.at s)) []
 
 -- "answers 27 .. with the count it holds"; "a refused walker repeats its refusal"
-abbrev pub refusal_by : Place → Start → Walked
-refusal_by p start.Accepted = Refused (Index p.count) 0
-refusal_by p (start.Refused r n) = Refused r n
+abbrev pub refusal_by : Place → Result Unit Refused → Result Point Refused
+refusal_by p (Ok tt) = Err (at_record (Index p.count) 0)
+refusal_by p (Err err) = Err err
 
-unfoldable pub refusal_of : Place → Walked
+unfoldable pub refusal_of : Place → Result Point Refused
 refusal_of p = refusal_by p p.start
 
 -- the place after the next record
@@ -46,12 +46,12 @@ after p =
 -- "gives each record in turn, and at the end answers 27 and stays"
 unfoldable pub took_of : List ℕ → Place → Took
 took_of s p =
-    cond (has_next s p) (record { answer = Point (point_of p.format (record_of s p)); next = after p })
+    cond (has_next s p) (record { answer = Ok (point_of p.format (record_of s p)); next = after p })
     (record { answer = refusal_of p; next = p })
 
 -- a walker's answer, and the walker after it
-abbrev pub next_by : Walker → Took → Walked × Walker
+abbrev pub next_by : Walker → Took → Result Point Refused × Walker
 next_by w t = (t.answer, record { file = w.file; place = t.next })
 
-unfoldable pub next_of : Walker → Walked × Walker
+unfoldable pub next_of : Walker → Result Point Refused × Walker
 next_of w = next_by w (took_of w.file.now w.place)

@@ -5,19 +5,10 @@ ghost use Rattle.std.specs.Prelude.{◌≡◌};
 ghost use Rattle.walker.specs.Begin.{first_place, refused_place, begin_of, walker_of};
 ghost use Rattle.walker.specs.Walk.{whole_at, record_of, refusal_of, took_of, next_of};
 
-use format::{Format, FormatLen};
-use header::Header;
+use format::Format;
 use outline::Outline;
-use point::{Point, PointRead};
-use refusal::Refusal;
-use rules::Checked;
-
-// How the walk began: the file check's answer, and its record number beside a refusal.
-#[derive(Clone, Copy)]
-pub enum Start {
-    Accepted,
-    Refused { refusal: Refusal, record: u64 },
-}
+use point::Point;
+use refusal::{Refusal, Refused};
 
 // Where a walker stands: the place of the next record, how many are left of the file's count, and the format, whose extra
 // bytes make its length the header's record length.
@@ -27,20 +18,13 @@ pub struct Place {
     pub at: usize,
     pub left: u64,
     pub count: u64,
-    pub start: Start,
-}
-
-// A point, or why there is none, with the record number of the file check's refusal.
-#[derive(Clone, Copy)]
-pub enum Walked {
-    Point(Point),
-    Refused { refusal: Refusal, record: u64 },
+    pub start: Result<(), Refused>,
 }
 
 // What a walker answers, and where it stands then.
 #[derive(Clone, Copy)]
 pub struct Took {
-    pub answer: Walked,
+    pub answer: Result<Point, Refused>,
     pub next: Place,
 }
 
@@ -62,7 +46,7 @@ impl<'a> Walker<'a> {
 
     // The next record's point, and the walker moves on; after the last 27 with the point count, and the walker stays. A
     // refused walker repeats its refusal.
-    pub fn next(&mut self) -> Walked
+    pub fn next(&mut self) -> Result<Point, Refused>
         ensures { (result, self.new) ≡ next_of self.old }
     {
         let took = take_at(self.file, self.place);
@@ -75,16 +59,9 @@ impl<'a> Walker<'a> {
 pub fn begin(file: &[u8], allowance: u64) -> Place
     ensures { result ≡ begin_of allowance file.now }
 {
-    match file::check(file, allowance) {
-        Checked::Accepted { records: _ } => {
-            let read = Header::read_from(file);
-            first_place(Outline::of(read.header))
-        }
-        Checked::Refused {
-            refusal,
-            record,
-            records: _,
-        } => refused_place(refusal, record),
+    match file::open(file, allowance) {
+        Ok(header) => first_place(Outline::of(header)),
+        Err(found) => refused_place(found.refusal, found.record),
     }
 }
 
@@ -97,7 +74,7 @@ fn first_place(o: Outline) -> Place
         at: o.offset_to_point_data as usize,
         left: o.number_of_point_records,
         count: o.number_of_point_records,
-        start: Start::Accepted,
+        start: Ok(()),
     }
 }
 
@@ -110,7 +87,7 @@ fn refused_place(refusal: Refusal, record: u64) -> Place
         at: 0,
         left: 0,
         count: 0,
-        start: Start::Refused { refusal, record },
+        start: Err(Refused { refusal, record }),
     }
 }
 
@@ -119,7 +96,7 @@ pub fn take_at(file: &[u8], place: Place) -> Took
     ensures { result ≡ took_of file.now place }
 {
     let record = record_at(file, place);
-    let PointRead::Is(point) = Point::read_from(record, place.format) else {
+    let Ok(point) = Point::read_from(record, place.format) else {
         return Took {
             answer: refusal_at(place),
             next: place,
@@ -128,7 +105,7 @@ pub fn take_at(file: &[u8], place: Place) -> Took
     let start = place.start;
     let format = place.format;
     Took {
-        answer: Walked::Point(point),
+        answer: Ok(point),
         next: Place {
             format,
             at: place.at + record.len(),
@@ -145,10 +122,10 @@ pub fn record_at(file: &[u8], place: Place) -> &[u8]
     ensures { result.now ≡ record_of file.now place }
 {
     let start = place.start;
-    let Start::Accepted = start else {
+    let Ok(()) = start else {
         return &file[..0];
     };
-    let FormatLen::Is(n) = place.format.len() else {
+    let Ok(n) = place.format.len() else {
         return &file[..0];
     };
     if place.left == 0 {
@@ -158,16 +135,16 @@ pub fn record_at(file: &[u8], place: Place) -> &[u8]
 }
 
 // What a walker answers where there is no next record: its refusal, or 27 with the count it holds.
-fn refusal_at(place: Place) -> Walked
+fn refusal_at(place: Place) -> Result<Point, Refused>
     ensures { result ≡ refusal_of place }
 {
     let start = place.start;
     match start {
-        Start::Accepted => Walked::Refused {
+        Ok(()) => Err(Refused {
             refusal: Refusal::Index(place.count),
             record: 0,
-        },
-        Start::Refused { refusal, record } => Walked::Refused { refusal, record },
+        }),
+        Err(refused) => Err(refused),
     }
 }
 

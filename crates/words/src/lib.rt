@@ -10,7 +10,6 @@ ghost use Rattle.words.specs.Rows.{refused_row, part_row};
 use angle::ScanAngle;
 use flags::Flags;
 use format::Format;
-use le::signed;
 use refusal::Refusal;
 
 // Four bytes as a number, the lowest first.
@@ -75,9 +74,9 @@ pub fn angle_of(w: u32) -> ScanAngle
     ensures { result ≡ angle_of w }
 {
     if w / 65536 == 1 {
-        return ScanAngle::Scaled(signed::signed16((w % 65536) as u16));
+        return ScanAngle::Scaled(((w % 65536) as u16).cast_signed());
     }
-    ScanAngle::Rank(signed::signed8((w % 256) as u8))
+    ScanAngle::Rank(((w % 256) as u8).cast_signed())
 }
 
 // The word of an angle.
@@ -85,8 +84,8 @@ pub fn angle_word(angle: ScanAngle) -> u32
     ensures { result ≡ angle_word angle }
 {
     match angle {
-        ScanAngle::Rank(rank) => signed::bits8(rank) as u32,
-        ScanAngle::Scaled(scaled) => (signed::bits16(scaled) as u32) + 65536,
+        ScanAngle::Rank(rank) => rank.cast_unsigned() as u32,
+        ScanAngle::Scaled(scaled) => (scaled.cast_unsigned() as u32) + 65536,
     }
 }
 

@@ -13,9 +13,8 @@ use Rattle.angle.proofs.entry.Goals as goal
 pub returns : goal.returns
 unfolding entry_of
 returns c =
-    let start = c in
-    let r = start.args.r in
-    let t : List ℤ = start.args.table.now in
-    let place = (c.bits8.result + 128) % 256 in
+    let r = c.args.r in
+    let t : List ℤ = c.args.table.now in
+    let place = (c.cast_unsigned.result + 128) % 256 in
     let same : to_z w16 (of_z w16 (get_or t place (pos 0))) ≡ get_or t place (pos 0) = search rules in
-    same ∙ ap (λ (k : ℕ). get_or t ((k + 128) % 256) (pos 0)) (c.bits8.ensures ∙ ap (of_z w8) (kept w8 r start.ranges.r.sfits))
+    same ∙ ap (λ (k : ℕ). get_or t ((k + 128) % 256) (pos 0)) (c.cast_unsigned.ensures ∙ ap (of_z w8) (kept w8 r c.ranges.r.sfits))

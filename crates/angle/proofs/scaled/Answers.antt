@@ -9,8 +9,7 @@ use Rattle.angle.proofs.scaled.Goals as goal
 
 pub returns : goal.returns
 returns c =
-    let start = c in
-    let r = start.args.r in
+    let r = c.args.r in
     kept w16 _ c.entry.type_inv ∙ c.entry.ensures
     ∙ ap (λ (t : List ℤ). entry_of t (to_z w8 (of_z w8 r))) c.scaled_table-table.ensures
-    ∙ ap (entry_of scaled_table) (kept w8 r start.ranges.r.sfits) ∙ table_rule r start.ranges.r
+    ∙ ap (entry_of scaled_table) (kept w8 r c.ranges.r.sfits) ∙ table_rule r c.ranges.r

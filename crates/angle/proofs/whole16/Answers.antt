@@ -25,7 +25,7 @@ unfolding to_signed
 returns-then-x c = sym (ap (to_signed 15) (differs_from_itself c.args.x (subst T (sym c.if-x.true) tt)))
 
 at-end : (c : Then-e-gt141) → to_signed 15 (x (goal.at.Then-e-gt141 c).Else-x) ≡ end 15 (negative (x (goal.at.Then-e-gt141 c).Else-x))
-at-end c = let n = c in is_end (x (goal.at.Then-e-gt141 n).Else-x) (is-f32 (goal.at.Then-e-gt141 n).Else-x) c.if-e-gt141.true (no_nan (x (goal.at.Then-e-gt141 n).Else-x) n.if-x.false)
+at-end c = is_end (x (goal.at.Then-e-gt141 c).Else-x) (is-f32 (goal.at.Then-e-gt141 c).Else-x) c.if-e-gt141.true (no_nan (x (goal.at.Then-e-gt141 c).Else-x) c.if-x.false)
 
 module _ (c : Else-e-gt141) where
   abbrev t : ℕ

@@ -1,15 +1,14 @@
 use mathlib.Core.Path.{ap, sym, ◌∙◌}
+use Rattle.std.proofs.lemmas.Result.{err_from_is_err_and}
 use Rattle.attribute.specs.Attributes.{begun_after, begun_of}
 use Rattle.attribute.proofs.begin.Goals as goal
 
-pub returns-in-File : goal.returns-in-File
+pub returns-in_err-o : goal.returns-in_err-o
 unfolding begun_of
-returns-in-File c =
-    let s = c.args.file.now in
-    c.begin_in.ensures ∙ ap (begun_after s) (sym c.in-File.is ∙ c.open.ensures)
+returns-in_err-o c =
+    let p = err_from_is_err_and c.from_residual.result c.from_residual.ensures.1 in
+    rw (p.1, p.2) (ap (begun_after c.args.file.now) (sym c.in_err-o.was ∙ c.open.ensures))
 
-pub returns-in-Refused : goal.returns-in-Refused
+pub returns : goal.returns
 unfolding begun_of
-returns-in-Refused c =
-    let s = c.args.file.now in
-    ap (begun_after s) (sym c.in-Refused.is ∙ c.open.ensures)
+returns c = c.begin_in.ensures ∙ ap (begun_after c.args.file.now) (sym c.in_ok-o.was ∙ c.open.ensures)

@@ -1,3 +1,4 @@
+use Rattle.std.specs.Prelude.{Ok}
 use Prim.Native.Nat.{ℕ, ◌+◌, ◌/◌}
 use mathlib.Core.Path.{◌≡◌, ap, sym, ◌∙◌}
 use mathlib.Core.Bool.{Bool}
@@ -10,7 +11,6 @@ use Rattle.format.specs.Fields.{place_of}
 use Rattle.format.specs.Laws.{fixed_le}
 use Rattle.layout.specs.Placed.{placed}
 use Rattle.file.specs.Points.{point_format}
-use Rattle.attribute.specs.declared.Begun.TheVariants.{At}
 use Rattle.attribute.specs.Attributes.{types_known, sizes_of, before_first}
 use Rattle.attribute.specs.Laws.{not_a_multiple, type_unknown, sizes_over, described}
 use Rattle.attribute.proofs.judge.Goals as goal
@@ -19,7 +19,7 @@ use Rattle.attribute.proofs.judge.Goals.{After-places_for, After-sizes_fit, Afte
 pub returns-then-data-ne0 : goal.returns-then-data-ne0
 returns-then-data-ne0 c =
     let a = c.args in
-    c.refused.ensures ∙ sym (not_a_multiple a.o a.start a.«data».now c.if-data-ne0.true)
+    rw c.into.ensures (sym (not_a_multiple a.o a.start a.«data».now c.if-data-ne0.true))
 
 -- the data is a multiple
 types : (t : After-types_known) {b : Bool} → t.types_known.result ≡ b → types_known (length t.args.«data».now / 192) t.args.«data».now ≡ b
@@ -28,7 +28,7 @@ types t is = sym t.types_known.ensures ∙ is
 pub returns-then-not-types_known : goal.returns-then-not-types_known
 returns-then-not-types_known c =
     let a = c.args in
-    c.refused-then-not-types_known.ensures ∙ sym (type_unknown a.o a.start a.«data».now c.if-data-ne0.false (types (goal.at.returns-then-not-types_known c).After-types_known c.if-not-types_known.true))
+    rw c.into-then-not-types_known.ensures (sym (type_unknown a.o a.start a.«data».now c.if-data-ne0.false (types (goal.at.returns-then-not-types_known c).After-types_known c.if-not-types_known.true)))
 
 -- and the types are known
 module _ (z : After-sizes_fit) where
@@ -42,7 +42,7 @@ pub returns-then-not-sizes_fit : goal.returns-then-not-sizes_fit
 returns-then-not-sizes_fit c =
     let a = c.args in
     let z = (goal.at.returns-then-not-sizes_fit c).After-sizes_fit in
-    c.refused-then-not-sizes_fit.ensures ∙ sym (sizes_over a.o a.start a.«data».now c.if-data-ne0.false (known z) (fit z c.if-not-sizes_fit.true))
+    rw c.into-then-not-sizes_fit.ensures (sym (sizes_over a.o a.start a.«data».now c.if-data-ne0.false (known z) (fit z c.if-not-sizes_fit.true)))
 
 -- where the extra bytes begin
 extra : (p : After-places_for) → p.places_for.result.extra_bytes ≡ place_of (point_format p.args.o) ExtraBytes
@@ -56,5 +56,5 @@ unfolding before_first
 returns c =
     let a = c.args in
     let p = goal.at.returns c in
-    ap (λ (k : ℕ). At (record { descriptor = a.start; left = length a.«data».now / 192; at = a.o.offset_to_point_data + k; stride = a.o.point_data_record_length; count = a.o.number_of_point_records })) (extra p.After-places_for)
+    ap (λ (k : ℕ). Ok (record { descriptor = a.start; left = length a.«data».now / 192; at = a.o.offset_to_point_data + k; stride = a.o.point_data_record_length; count = a.o.number_of_point_records })) (extra p.After-places_for)
     ∙ sym (described a.o a.start a.«data».now c.if-data-ne0.false (known p.After-sizes_fit) (fit p.After-sizes_fit c.if-not-sizes_fit.false))

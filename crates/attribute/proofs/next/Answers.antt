@@ -1,40 +1,39 @@
+use Rattle.std.specs.Prelude.{Option, Some}
 use Prim.Native.Nat.{ℕ, ◌+◌, ◌-◌}
 use mathlib.Core.Path.{◌≡◌, sym, ◌∙◌}
-use mathlib.Core.Bool.{true}
 use mathlib.Core.List.{List}
 use native.Mathlib.Omega.{arith}
 use lib.ListN.{drop}
 use Rattle.descriptor.specs.Descriptor.{type_in}
 use Rattle.attribute.specs.declared.Attributes.{Attributes}
 use Rattle.attribute.specs.declared.Step.{Step}
-use Rattle.attribute.specs.Attributes.{size_at, attribute_at, after}
+use Rattle.attribute.specs.Attributes.{size_at, attribute_at, after, step_of}
 use Rattle.attribute.specs.Laws.{type_at, none_left, no_descriptor_lem, too_far_lem, one-there}
 use Rattle.attribute.proofs.next.Goals as goal
 
 -- the attribute that is made
 made : (s : List ℕ) (k : Attributes) {t z : ℕ} → t ≡ type_in (drop k.descriptor s) → z ≡ size_at k.descriptor s
-    → ◌≡◌ {A = Step} (record { has = true; attribute = record { data_type = t; size = z; at = k.at; stride = k.stride; count = k.count }; descriptor = k.descriptor; next = record { descriptor = k.descriptor + 192; left = k.left - 1; at = k.at + z; stride = k.stride; count = k.count } })
-    (record { has = true; attribute = attribute_at s k.descriptor k.at k; descriptor = k.descriptor; next = after s k })
+    → ◌≡◌ {A = Option Step} (Some (record { attribute = record { data_type = t; size = z; at = k.at; stride = k.stride; count = k.count }; descriptor = k.descriptor; next = record { descriptor = k.descriptor + 192; left = k.left - 1; at = k.at + z; stride = k.stride; count = k.count } }))
+    (Some (step_of (attribute_at s k.descriptor k.at k) k.descriptor (after s k)))
 unfolding attribute_at after
 made s k p q = λ i.
-    record {
-      has = true;
+    Some (record {
       attribute = record { data_type = p i; size = q i; at = k.at; stride = k.stride; count = k.count };
       descriptor = k.descriptor;
       next = record { descriptor = k.descriptor + 192; left = k.left - 1; at = k.at + q i; stride = k.stride; count = k.count };
-    }
+    })
 
 pub returns-then-c-eq0 : goal.returns-then-c-eq0
-returns-then-c-eq0 c = let a = c.args in c.ended.ensures ∙ sym (none_left a.file.now a.c c.if-c-eq0.true)
+returns-then-c-eq0 c = sym (none_left c.args.file.now c.args.c c.if-c-eq0.true)
 
 pub returns-then-file-lt192 : goal.returns-then-file-lt192
-returns-then-file-lt192 c = let a = c.args in c.ended-then-file-lt192.ensures ∙ sym (no_descriptor_lem a.file.now a.c (omega arith))
+returns-then-file-lt192 c = sym (no_descriptor_lem c.args.file.now c.args.c (omega arith))
 
 pub returns-then-file-descriptor : goal.returns-then-file-descriptor
-returns-then-file-descriptor c = let a = c.args in c.ended-then-file-descriptor.ensures ∙ sym (no_descriptor_lem a.file.now a.c (omega arith))
+returns-then-file-descriptor c = sym (no_descriptor_lem c.args.file.now c.args.c (omega arith))
 
 pub returns-then-c-gt9223372036854775807 : goal.returns-then-c-gt9223372036854775807
-returns-then-c-gt9223372036854775807 c = let a = c.args in c.ended-then-c-gt9223372036854775807.ensures ∙ sym (too_far_lem a.file.now a.c (omega arith))
+returns-then-c-gt9223372036854775807 c = sym (too_far_lem c.args.file.now c.args.c (omega arith))
 
 pub returns : goal.returns
 returns c =

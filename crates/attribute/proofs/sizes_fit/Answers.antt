@@ -1,8 +1,7 @@
-use Prim.Native.Nat.{ℕ, ◌+◌, ◌-◌, ◌≤◌}
+use Prim.Native.Nat.{ℕ, ◌+◌, ◌-◌, ◌*◌, ◌≤◌}
 use mathlib.Core.Path.{◌≡◌, refl, sym, ◌∙◌}
 use mathlib.Core.Bool.{Bool, true, false}
 use native.Mathlib.Omega.{arith}
-use borrow.Author.Rules.{rules}
 use borrow.Author.Tests.{le-leb, lt-leb, leb-true, leb-false}
 use lib.Dec.{leb}
 use lib.ListN.{drop}
@@ -21,22 +20,27 @@ less all rest size room n sum is fits = go (leb rest (room - n)) refl
 
 pub returns-then-room-size : goal.returns-then-room-size
 returns-then-room-size c =
-    let l = c.loop-left in
+    let l = c.loop-i in
     let a = c.args in
-    sym (lt-leb (sizes_of l.left (drop l.at a.«data».now)) l.room (omega (arith, c.size_at-size.ensures.0, sizes_turn a.«data».now l.at l.left (omega arith)))) ∙ l.invariant.1
+    sym (lt-leb (sizes_of (a.count - l.i) (drop (l.i * 192) a.«data».now)) l.room (omega (arith, c.size_at-size.ensures.0, sizes_turn a.«data».now (l.i * 192) (a.count - l.i) (omega arith)))) ∙ l.invariant.1
 
-pub loop-left-preserved : goal.loop-left-preserved
-loop-left-preserved c =
-    let l = c.loop-left in
+pub loop-i-preserved : goal.loop-i-preserved
+loop-i-preserved c =
+    let l = c.loop-i in
     let a = c.args in
-    (omega arith, less (sizes_of l.left (drop l.at a.«data».now)) (sizes_of (l.left - 1) (drop (l.at + 192) a.«data».now)) (size_at l.at a.«data».now) l.room c.size_at-size.result (sizes_turn a.«data».now l.at l.left (omega arith)) c.size_at-size.ensures.0 (omega arith) ∙ l.invariant.1)
+    let fewer : a.count - (l.i + 1) ≡ a.count - l.i - 1 = omega arith in
+    let further : (l.i + 1) * 192 ≡ l.i * 192 + 192 = omega arith in
+    rw (fewer, further) (omega arith, less (sizes_of (a.count - l.i) (drop (l.i * 192) a.«data».now)) (sizes_of (a.count - l.i - 1) (drop (l.i * 192 + 192) a.«data».now)) (size_at (l.i * 192) a.«data».now) l.room c.size_at-size.result (sizes_turn a.«data».now (l.i * 192) (a.count - l.i) (omega arith)) c.size_at-size.ensures.0 (omega arith) ∙ l.invariant.1)
 
 pub returns : goal.returns
 unfolding sizes_of
 returns c =
-    let l = c.loop-left in
-    let none : l.left ≡ 0 = omega arith in
+    let l = c.loop-i in
+    let none : c.args.count - l.i ≡ 0 = omega arith in
     sym (le-leb 0 l.room (omega arith)) ∙ rw none at l.invariant.1
 
-pub loop-left-init : goal.loop-left-init
-loop-left-init c = (search rules, refl)
+pub loop-i-init : goal.loop-i-init
+loop-i-init c =
+    let a = c.args in
+    let all : a.count - 0 ≡ a.count = omega arith in
+    rw all (omega arith, refl)

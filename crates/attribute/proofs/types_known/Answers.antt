@@ -1,9 +1,8 @@
-use Prim.Native.Nat.{ℕ, ◌+◌, ◌-◌, ◌≤◌, ◌<◌}
+use Prim.Native.Nat.{ℕ, ◌+◌, ◌-◌, ◌*◌, ◌≤◌, ◌<◌}
 use mathlib.Core.Path.{◌≡◌, refl, ap, sym, ◌∙◌}
 use mathlib.Core.Bool.{Bool, true, false, ◌&&◌}
 use mathlib.Core.List.{List}
 use native.Mathlib.Omega.{arith}
-use borrow.Author.Rules.{rules}
 use borrow.Author.Tests.{le-leb, lt-leb}
 use lib.Dec.{leb}
 use lib.ListN.{drop}
@@ -23,23 +22,28 @@ known d at h = le-leb (type_in (drop at d)) 10 (omega (arith, type_at d at))
 
 pub returns-then-u8_at-gt10 : goal.returns-then-u8_at-gt10
 returns-then-u8_at-gt10 c =
-    let l = c.loop-left in
+    let l = c.loop-i in
     let a = c.args in
-    sym (ap (λ (b : Bool). b && types_known (l.left - 1) (drop (l.at + 192) a.«data».now)) (above a.«data».now l.at (omega (arith, c.u8_at.ensures))))
-    ∙ sym (types_turn a.«data».now l.at l.left (omega arith)) ∙ l.invariant.1
+    sym (ap (λ (b : Bool). b && types_known (a.count - l.i - 1) (drop (l.i * 192 + 192) a.«data».now)) (above a.«data».now (l.i * 192) (omega (arith, c.u8_at.ensures))))
+    ∙ sym (types_turn a.«data».now (l.i * 192) (a.count - l.i) (omega arith)) ∙ l.invariant.1
 
-pub loop-left-preserved : goal.loop-left-preserved
-loop-left-preserved c =
-    let l = c.loop-left in
+pub loop-i-preserved : goal.loop-i-preserved
+loop-i-preserved c =
+    let l = c.loop-i in
     let a = c.args in
-    (omega arith, sym (types_turn a.«data».now l.at l.left (omega arith) ∙ ap (λ (b : Bool). b && types_known (l.left - 1) (drop (l.at + 192) a.«data».now)) (known a.«data».now l.at (omega (arith, c.u8_at.ensures)))) ∙ l.invariant.1)
+    let fewer : a.count - (l.i + 1) ≡ a.count - l.i - 1 = omega arith in
+    let further : (l.i + 1) * 192 ≡ l.i * 192 + 192 = omega arith in
+    rw (fewer, further) (omega arith, sym (types_turn a.«data».now (l.i * 192) (a.count - l.i) (omega arith) ∙ ap (λ (b : Bool). b && types_known (a.count - l.i - 1) (drop (l.i * 192 + 192) a.«data».now)) (known a.«data».now (l.i * 192) (omega (arith, c.u8_at.ensures)))) ∙ l.invariant.1)
 
 pub returns : goal.returns
 unfolding types_known
 returns c =
-    let l = c.loop-left in
-    let none : l.left ≡ 0 = omega arith in
+    let l = c.loop-i in
+    let none : c.args.count - l.i ≡ 0 = omega arith in
     rw none at l.invariant.1
 
-pub loop-left-init : goal.loop-left-init
-loop-left-init c = (search rules, refl)
+pub loop-i-init : goal.loop-i-init
+loop-i-init c =
+    let a = c.args in
+    let all : a.count - 0 ≡ a.count = omega arith in
+    rw all (omega arith, refl)

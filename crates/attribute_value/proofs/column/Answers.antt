@@ -1,9 +1,9 @@
+use Rattle.std.specs.Prelude.{Ok, Err}
 use Prim.Native.Nat.{ℕ, ◌≤◌, ◌<◌, min}
 use mathlib.Core.Path.{◌≡◌, ap, sym, subst⁻¹, ◌∙◌}
 use mathlib.Core.Bool.{Bool, true}
 use native.Mathlib.Omega.{arith}
 use lib.ListN.{length}
-use Rattle.column.specs.declared.Filled.TheVariants.{Entries}
 use Rattle.column.specs.Column.{same, filled_of}
 use Rattle.attribute_value.specs.Value.{value_at}
 use Rattle.attribute_value.specs.Many.{Stand, all_lie}
@@ -22,7 +22,7 @@ module _ (l : After-all_lie) where
 pub returns-then-not-all_lie : goal.returns-then-not-all_lie
 returns-then-not-all_lie c =
     let a = (start (goal.at.returns-then-not-all_lie c).After-all_lie).args in
-    (λ i. (c.refused.ensures i, a.dst.now)) ∙ sym (not-all a.a a.first a.count a.file.now a.dst.now (told (goal.at.returns-then-not-all_lie c).After-all_lie c.if-not-all_lie.true))
+    (λ i. (Err (c.into.ensures i), a.dst.now)) ∙ sym (not-all a.a a.first a.count a.file.now a.dst.now (told (goal.at.returns-then-not-all_lie c).After-all_lie c.if-not-all_lie.true))
 
 -- they all lie in the file
 module _ (e : Else-not-all_lie) where
@@ -42,13 +42,13 @@ module _ (e : Else-not-all_lie) where
 pub returns-then-dst-count : goal.returns-then-dst-count
 returns-then-dst-count c =
     let a = (begun (goal.at.returns-then-dst-count c).Else-not-all_lie).args in
-    (λ i. (c.refused-then-dst-count.ensures i, a.dst.now)) ∙ sym (no_room a.a a.first a.count a.file.now a.dst.now (all (goal.at.returns-then-dst-count c).Else-not-all_lie) (omega arith))
+    (λ i. (Err (c.into-then-dst-count.ensures i), a.dst.now)) ∙ sym (no_room a.a a.first a.count a.file.now a.dst.now (all (goal.at.returns-then-dst-count c).Else-not-all_lie) (omega arith))
 
 pub returns-then-count-eq0 : goal.returns-then-count-eq0
 returns-then-count-eq0 c =
     let a = (begun (goal.at.returns-then-count-eq0 c).Else-not-all_lie).args in
     let no : a.count ≡ 0 = omega arith in
-    (λ i. (Entries (sym no i), a.dst.now)) ∙ sym (none a.a a.first a.count a.file.now a.dst.now (all (goal.at.returns-then-count-eq0 c).Else-not-all_lie) no)
+    (λ i. (Ok (sym no i), a.dst.now)) ∙ sym (none a.a a.first a.count a.file.now a.dst.now (all (goal.at.returns-then-count-eq0 c).Else-not-all_lie) no)
 
 pub fill-requires : goal.fill-requires
 fill-requires c =
@@ -58,7 +58,7 @@ fill-requires c =
 pub returns : goal.returns
 returns c =
     let a = (begun (goal.at.returns c).Else-not-all_lie).args in
-    (λ i. (Entries a.count, (c.fill.ensures ∙ ap (λ (w : ℕ). filled_of same w (value_at a.a a.first) a.a.stride a.count a.file.now a.dst.now) c.shown.ensures) i))
+    (λ i. (Ok a.count, (c.fill.ensures ∙ ap (λ (w : ℕ). filled_of same w (value_at a.a a.first) a.a.stride a.count a.file.now a.dst.now) c.shown.ensures) i))
     ∙ sym (filled a.a a.first a.count a.file.now a.dst.now (all (goal.at.returns c).Else-not-all_lie) (omega arith))
 
 pub overflow_sub-from : goal.overflow_sub-from

@@ -23,7 +23,7 @@ module _ (c : Else-not-lies) where
   there = lies_says start.args.a start.args.point start.args.file.now is
 
 pub returns : goal.returns
-returns c = let e = c in let a = (start (goal.at.returns e).Else-not-lies).args in sym (placed_at a.a a.point a.file.now (is (goal.at.returns e).Else-not-lies))
+returns c = let a = (start (goal.at.returns c).Else-not-lies).args in sym (placed_at a.a a.point a.file.now (is (goal.at.returns c).Else-not-lies))
 
 pub overflow_sub-result : goal.overflow_sub-result
 overflow_sub-result c = omega (arith, (there c).one)

@@ -5,8 +5,8 @@ use Rattle.capi.specs.Rows.{new_row}
 use Rattle.capi.proofs.las_format_new.Goals as goal
 
 -- The answer that the match found is the one that the call gave.
-pub returns-in-Is : goal.returns-in-Is
-returns-in-Is c = c.tell.ensures ∙ ap (λ (n : ℕ). 0 ∷ n ∷ 0 ∷ []) c.format_word.ensures ∙ ap new_row (sym c.in-Is.is ∙ c.new.ensures)
+pub returns-in-Ok : goal.returns-in-Ok
+returns-in-Ok c = c.tell.ensures ∙ ap (λ (n : ℕ). 0 ∷ n ∷ 0 ∷ []) c.format_word.ensures ∙ ap new_row (sym c.in-Ok.is ∙ c.new.ensures)
 
-pub returns-in-Refused : goal.returns-in-Refused
-returns-in-Refused c = c.refuse.ensures ∙ ap new_row (sym c.in-Refused.is ∙ c.new.ensures)
+pub returns-in-Err : goal.returns-in-Err
+returns-in-Err c = c.refuse.ensures ∙ ap new_row (sym c.in-Err.is ∙ c.new.ensures)

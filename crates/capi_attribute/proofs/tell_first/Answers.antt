@@ -3,11 +3,11 @@ use mathlib.Core.List.{[], ◌∷◌}
 use Rattle.capi_attribute.specs.Rows.{first_by}
 use Rattle.capi_attribute.proofs.tell_first.Goals as goal
 
-pub returns-in-At : goal.returns-in-At
-returns-in-At c =
-    (λ i. (c.tell.ensures i, c.in-At.start ∷ c.in-At.length ∷ [])) ∙ ap (first_by c.args.span.now) (sym c.in-At.is)
+pub returns-in-Some : goal.returns-in-Some
+returns-in-Some c =
+    (λ i. (c.tell.ensures i, c.in-Some.part.start ∷ c.in-Some.part.length ∷ [])) ∙ ap (first_by c.args.span.now) (sym c.in-Some.is)
 
-pub returns-in-Nothing : goal.returns-in-Nothing
-returns-in-Nothing c =
+pub returns-in-None : goal.returns-in-None
+returns-in-None c =
     let a = c.args in
-    (λ i. (c.tell-in-Nothing.ensures i, a.span.now)) ∙ ap (first_by a.span.now) (sym c.in-Nothing.is)
+    (λ i. (c.tell-in-None.ensures i, a.span.now)) ∙ ap (first_by a.span.now) (sym c.in-None.is)

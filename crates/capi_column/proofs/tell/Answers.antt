@@ -2,5 +2,5 @@ use mathlib.Core.Path.{sym, ap, ◌∙◌}
 use Rattle.capi_column.specs.Rows.{filled_row}
 use Rattle.capi_column.proofs.tell.Goals as goal
 
-pub returns-in-Refused : goal.returns-in-Refused
-returns-in-Refused c = c.refuse.ensures ∙ ap filled_row (sym c.in-Refused.is)
+pub returns-in-Err : goal.returns-in-Err
+returns-in-Err c = c.refuse.ensures ∙ ap filled_row (sym c.in-Err.is)

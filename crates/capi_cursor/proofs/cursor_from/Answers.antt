@@ -5,6 +5,5 @@ use Rattle.capi_cursor.proofs.cursor_from.Goals as goal
 pub returns : goal.returns
 unfolding cursor_from
 returns c =
-    let stage = c in
-    let n = stage.args.n.now in
-    λ i. record { stage = stage.stage_from.ensures i; at = nth n 1; left = nth n 2 % 4294967296; plan = plan_from n }
+    let n = c.args.n.now in
+    λ i. record { stage = c.stage_from.ensures i; at = nth n 1; left = nth n 2 % 4294967296; plan = plan_from n }

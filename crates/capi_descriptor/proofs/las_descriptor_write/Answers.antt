@@ -12,10 +12,10 @@ written w =
     let a = w.args in
     ap written_row (w.write_to.ensures ∙ ap (λ (v : Descriptor). written_of v a.dst.now) {y = descriptor_from a.numbers.now a.name.now a.deprecated.now a.description.now} w.descriptor_from-descriptor.ensures)
 
-pub returns-in-Bytes : goal.returns-in-Bytes
-returns-in-Bytes c =
-    (λ i. ((c.tell.ensures ∙ ap wrote_row (sym c.in-Bytes.is)) i, c.write_to.new.dst)) ∙ written (goal.at.returns-in-Bytes c).After-write_to
+pub returns-in-Ok : goal.returns-in-Ok
+returns-in-Ok c =
+    (λ i. ((c.tell.ensures ∙ ap wrote_row (sym c.in-Ok.is)) i, c.write_to.new.dst)) ∙ written (goal.at.returns-in-Ok c).After-write_to
 
-pub returns-in-Refused : goal.returns-in-Refused
-returns-in-Refused c =
-    (λ i. ((c.refuse.ensures ∙ ap wrote_row (sym c.in-Refused.is)) i, c.write_to.new.dst)) ∙ written (goal.at.returns-in-Refused c).After-write_to
+pub returns-in-Err : goal.returns-in-Err
+returns-in-Err c =
+    (λ i. ((c.refuse.ensures ∙ ap wrote_row (sym c.in-Err.is)) i, c.write_to.new.dst)) ∙ written (goal.at.returns-in-Err c).After-write_to

@@ -7,6 +7,5 @@ use Rattle.capi_header.proofs.las_header_padding.Goals as goal
 pub returns : goal.returns
 unfolding padding_part
 returns c =
-    let b = c in
-    let block = b.block_of.ensures ∙ λ i. block_of (b.read_from-read.ensures i).answer in
-    c.tell_part.ensures ∙ λ i. part_row (block i) (length (b.padding-padding.ensures i))
+    let block = c.block_of.ensures ∙ λ i. block_of (c.measure.ensures i) in
+    c.tell_part.ensures ∙ λ i. part_row (block i) (length (c.padding-padding.ensures i))

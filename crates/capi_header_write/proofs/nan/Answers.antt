@@ -3,4 +3,4 @@ use Rattle.le.specs.Real.{f64_of}
 use Rattle.capi_header_write.proofs.nan.Goals as goal
 
 pub returns : goal.returns
-returns c = λ i. ((c.f64_of.ensures ∙ ap f64_of c.nth.ensures) i).nan
+returns c = λ i. ((c.from_bits.ensures ∙ ap f64_of c.nth.ensures) i).nan

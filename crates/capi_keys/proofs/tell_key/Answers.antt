@@ -3,9 +3,9 @@ use mathlib.Core.Bool.{true}
 use Rattle.capi_keys.specs.Rows.{key_row}
 use Rattle.capi_keys.proofs.tell_key.Goals as goal
 
-pub returns-in-Is : goal.returns-in-Is
-returns-in-Is c =
-    (λ i. (true, c.key_numbers.ensures i)) ∙ ap (key_row c.args.numbers.now) (sym c.in-Is.is)
+pub returns-in-Some : goal.returns-in-Some
+returns-in-Some c =
+    (λ i. (true, c.key_numbers.ensures i)) ∙ ap (key_row c.args.numbers.now) (sym c.in-Some.is)
 
-pub returns-in-Nothing : goal.returns-in-Nothing
-returns-in-Nothing c = ap (key_row c.args.numbers.now) (sym c.in-Nothing.is)
+pub returns-in-None : goal.returns-in-None
+returns-in-None c = ap (key_row c.args.numbers.now) (sym c.in-None.is)

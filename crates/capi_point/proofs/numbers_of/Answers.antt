@@ -15,9 +15,9 @@ returns c =
     let p = c.args.point in
     let wr = c.waveform_or-waveform.result in
     let cr = c.color_or-color.result in
-    let x : c.bits32.result ≡ of_z w32 p.x = c.bits32.ensures ∙ ap (of_z w32) (kept w32 p.x (search rules)) in
-    let y : c.bits32-2.result ≡ of_z w32 p.y = c.bits32-2.ensures ∙ ap (of_z w32) (kept w32 p.y (search rules)) in
-    let z : c.bits32-3.result ≡ of_z w32 p.z = c.bits32-3.ensures ∙ ap (of_z w32) (kept w32 p.z (search rules)) in
+    let x : c.cast_unsigned.result ≡ of_z w32 p.x = c.cast_unsigned.ensures ∙ ap (of_z w32) (kept w32 p.x (search rules)) in
+    let y : c.cast_unsigned-2.result ≡ of_z w32 p.y = c.cast_unsigned-2.ensures ∙ ap (of_z w32) (kept w32 p.y (search rules)) in
+    let z : c.cast_unsigned-3.result ≡ of_z w32 p.z = c.cast_unsigned-3.ensures ∙ ap (of_z w32) (kept w32 p.z (search rules)) in
     -- first each call's number, then the colour and the waveform that two of the calls gave
     ◌∙◌ {b = listed (of_z w32 p.x) (of_z w32 p.y) (of_z w32 p.z) p (flags_word p.flags) (angle_word p.scan_angle) (has_time p.gps_time) (time_bits_of p.gps_time) (has_color p.color) cr (has_nir p.nir) (nir_or p.nir) (has_waveform p.waveform) wr}
     (λ i.

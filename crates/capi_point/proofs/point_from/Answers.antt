@@ -9,9 +9,9 @@ use Rattle.capi_point.proofs.point_from.Goals as goal
 pub returns : goal.returns
 unfolding point_from
 returns c =
-    let x = kept w32 _ c.signed32.type_inv ∙ c.signed32.ensures ∙ ap (to_z w32) c.low32.ensures in
-    let y = kept w32 _ c.signed32-2.type_inv ∙ c.signed32-2.ensures ∙ ap (to_z w32) c.low32-2.ensures in
-    let z = kept w32 _ c.signed32-3.type_inv ∙ c.signed32-3.ensures ∙ ap (to_z w32) c.low32-3.ensures in
+    let x = kept w32 _ c.cast_signed.type_inv ∙ c.cast_signed.ensures ∙ ap (to_z w32) c.low32.ensures in
+    let y = kept w32 _ c.cast_signed-2.type_inv ∙ c.cast_signed-2.ensures ∙ ap (to_z w32) c.low32-2.ensures in
+    let z = kept w32 _ c.cast_signed-3.type_inv ∙ c.cast_signed-3.ensures ∙ ap (to_z w32) c.low32-3.ensures in
     let flags = c.flags_of.ensures ∙ ap flags_of c.low32-4.ensures in
     let angle = c.angle_of.ensures ∙ ap angle_of c.low32-5.ensures in
     λ i. record {

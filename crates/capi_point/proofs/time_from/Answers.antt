@@ -8,4 +8,4 @@ returns-then-nth-eq0 c = rw (← c.nth.ensures) (search tests)
 
 pub returns : goal.returns
 unfolding time_from
-returns c = rw (c.f64_of.ensures, c.nth-2.ensures, ← c.nth.ensures) (search tests)
+returns c = rw (c.from_bits.ensures, c.nth-2.ensures, ← c.nth.ensures) (search tests)

@@ -1,11 +1,4 @@
-use mathlib.Core.Path.{sym, ◌∙◌}
-use native.Mathlib.Omega.{arith}
-use lib.ListN.{replicate}
-use Rattle.capi_sheet.specs.Numbers.{part_from}
-use Rattle.capi_sheet.proofs.Laid.{over, part_length}
 use Rattle.capi_sheet.proofs.classes_from.Goals as goal
 
 pub returns : goal.returns
-returns c =
-    let n = c.args.n.now in
-    c.put.ensures ∙ over (replicate 256 0) (part_from 9 256 n) (sym (part_length n 9 256 (omega (arith, c.requires))))
+returns c = c.copy_from_slice.ensures.after

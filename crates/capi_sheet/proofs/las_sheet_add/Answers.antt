@@ -1,27 +1,24 @@
+use Rattle.std.specs.Prelude.{Result}
+use Rattle.refusal.specs.declared.Refused.{Refused}
 use mathlib.Core.Path.{◌≡◌, ap, sym, ◌∙◌}
 use Rattle.sheet.specs.declared.Sheet.{Sheet}
-use Rattle.sheet.specs.declared.Answer.{Answer}
-use Rattle.sheet.specs.declared.Added.{Added}
-use Rattle.sheet.specs.Sheet.{added_of}
+use Rattle.sheet.specs.Sheet.{Added, added_of}
 use Rattle.capi_sheet.specs.Numbers.{sheet_from, added_by, added_row}
 use Rattle.capi_sheet.proofs.las_sheet_add.Goals as goal
-use Rattle.capi_sheet.proofs.las_sheet_add.Goals.{After-add-added, Start}
+use Rattle.capi_sheet.proofs.las_sheet_add.Goals.{After-add}
 
 -- the row and the numbers of the answer, whichever it is
-module _ (m : After-add-added) where
-  abbrev a : Start
-  a = (goal.at.After-add-added m).Start
-
-  told : {x : Answer} → m.add-added.result.answer ≡ x → added_by x m.add-added.result.sheet a.args.sheet.now ≡ added_row (added_of a.args.allowance (sheet_from a.args.sheet.now) a.args.file.now) a.args.sheet.now
+module _ (m : After-add) where
+  told : {x : Result Unit Refused} → m.add.result ≡ x → added_by x m.add.new.sheet m.args.sheet.now ≡ added_row (added_of m.args.allowance (sheet_from m.args.sheet.now) m.args.file.now) m.args.sheet.now
   unfolding added_row
   told is =
-      ap (λ (x : Answer). added_by x m.add-added.result.sheet a.args.sheet.now) (sym is)
-      ∙ ap (λ (r : Added). added_row r a.args.sheet.now) (m.add-added.ensures ∙ ap (λ (h : Sheet). added_of a.args.allowance h a.args.file.now) m.sheet_from.ensures)
+      ap (λ (x : Result Unit Refused). added_by x m.add.new.sheet m.args.sheet.now) (sym is)
+      ∙ ap (λ (r : Added). added_row r m.args.sheet.now) (m.add.ensures ∙ ap (λ (h : Sheet). added_of m.args.allowance h m.args.file.now) m.sheet_from-after.ensures)
 
-pub returns-in-Added : goal.returns-in-Added
-returns-in-Added c =
-    (λ i. (c.tell.ensures i, c.sheet_numbers.ensures i)) ∙ told (goal.at.returns-in-Added c).After-add-added c.in-Added.is
+pub returns-in-Ok : goal.returns-in-Ok
+returns-in-Ok c =
+    (λ i. (c.tell.ensures i, c.sheet_numbers.ensures i)) ∙ told (goal.at.returns-in-Ok c).After-add c.in-Ok.is
 
-pub returns-in-Refused : goal.returns-in-Refused
-returns-in-Refused c =
-    (λ i. (c.refuse.ensures i, (a (goal.at.returns-in-Refused c).After-add-added).args.sheet.now)) ∙ told (goal.at.returns-in-Refused c).After-add-added c.in-Refused.is
+pub returns-in-Err : goal.returns-in-Err
+returns-in-Err c =
+    (λ i. (c.refuse.ensures i, c.args.sheet.now)) ∙ told (goal.at.returns-in-Err c).After-add c.in-Err.is

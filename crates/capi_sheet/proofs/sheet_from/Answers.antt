@@ -9,7 +9,7 @@ returns c =
     λ i. record {
       files = get_or n 0 0;
       points = get_or n 1 0;
-      bounds = c.bounds_from-bounds.ensures i;
-      classes = c.classes_from-classes.ensures i;
-      returns = c.returns_from-returns.ensures i;
+      bounds = c.bounds_from.ensures i;
+      classes = c.classes_from.ensures i;
+      returns = c.returns_from.ensures i;
     }

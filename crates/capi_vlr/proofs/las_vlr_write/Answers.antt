@@ -25,13 +25,13 @@ written c =
     let a = c.args in
     rw (fits (goal.at.After-write_to c).Else-overlong) (ap written_row (c.write_to.ensures ∙ ap (λ (x : Vlr). written_of x a.«data».now a.dst.now) c.vlr_from-vlr.ensures))
 
-pub returns-in-Bytes : goal.returns-in-Bytes
-returns-in-Bytes c =
-    (λ i. ((c.tell.ensures ∙ ap wrote_row (sym c.in-Bytes.is)) i, c.write_to.new.dst)) ∙ written (goal.at.returns-in-Bytes c).After-write_to
+pub returns-in-Ok : goal.returns-in-Ok
+returns-in-Ok c =
+    (λ i. ((c.tell.ensures ∙ ap wrote_row (sym c.in-Ok.is)) i, c.write_to.new.dst)) ∙ written (goal.at.returns-in-Ok c).After-write_to
 
-pub returns-in-Refused : goal.returns-in-Refused
-returns-in-Refused c =
-    (λ i. ((c.refuse-in-Refused.ensures ∙ ap wrote_row (sym c.in-Refused.is)) i, c.write_to.new.dst)) ∙ written (goal.at.returns-in-Refused c).After-write_to
+pub returns-in-Err : goal.returns-in-Err
+returns-in-Err c =
+    (λ i. ((c.refuse-in-Err.ensures ∙ ap wrote_row (sym c.in-Err.is)) i, c.write_to.new.dst)) ∙ written (goal.at.returns-in-Err c).After-write_to
 
 pub vlr_from-vlr-requires : goal.vlr_from-vlr-requires
 vlr_from-vlr-requires c = fits c

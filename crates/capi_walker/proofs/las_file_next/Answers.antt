@@ -1,8 +1,9 @@
+use Rattle.std.specs.Prelude.{Result, Ok}
+use Rattle.point.specs.declared.Point.{Point}
+use Rattle.refusal.specs.declared.Refused.{Refused}
 use mathlib.Core.Path.{◌≡◌, sym, ap, ◌∙◌}
 use borrow.Author.Tests.{eq-eqb, ne_eqb}
-use Rattle.walker.specs.declared.Start.TheVariants as start
 use Rattle.walker.specs.declared.Place.{Place}
-use Rattle.walker.specs.declared.Walked.{Walked}
 use Rattle.walker.specs.declared.Took.{Took}
 use Rattle.walker.specs.Walk.{took_of}
 use Rattle.walker.specs.Laws.{start_kept}
@@ -20,36 +21,29 @@ returns-then-place-ne0 c =
 took : (c : After-take_at-took) → let a = c.args in let t = c.take_at-took.result in next_row a.file.now a.place.now a.numbers.now ≡ took_row a.place.now a.numbers.now t.answer t.next
 unfolding next_row
 took c =
-    let e = c in
-    let a = e.args in
-    rw (eq-eqb _ _ e.if-place-ne0.false)
+    let a = c.args in
+    rw (eq-eqb _ _ c.if-place-ne0.false)
     (ap (λ (x : Took). took_row a.place.now a.numbers.now x.answer x.next) (sym (c.take_at-took.ensures ∙ ap (took_of a.file.now) c.place_from.ensures)))
 
 -- and leaves the walk an accepted one
-still-accepted : (c : After-take_at-took) → c.take_at-took.result.next.start ≡ start.Accepted
+still-accepted : (c : After-take_at-took) → c.take_at-took.result.next.start ≡ (Ok tt)
 unfolding place_from
 still-accepted c =
     let a = c.args in
     let p = c.place_from in
     ap (λ (x : Took). x.next.start) c.take_at-took.ensures ∙ start_kept a.file.now p.result ∙ ap (λ (x : Place). x.start) p.ensures
 
-pub returns-in-Point : goal.returns-in-Point
-returns-in-Point c =
-    let n = c in
-    let p = n in
-    let q = p in
-    let e = q in
-    let t = e in
-    let a = t.args in
-    let next = t.take_at-took.result.next in
-    let place = p.numbers_with.ensures ∙ ap (place_with next) (q.accepted.ensures ∙ ap start_row (sym (still-accepted (goal.at.returns-in-Point t).After-take_at-took))) ∙ with-start next in
-    (λ i. (place i, c.tell-in-Point.ensures i, n.numbers_of.ensures i))
-    ∙ ap (λ (x : Walked). took_row a.place.now a.numbers.now x t.take_at-took.result.next) (sym e.in-Point.is) ∙ sym (took (goal.at.returns-in-Point t).After-take_at-took)
+pub returns-in-Ok : goal.returns-in-Ok
+returns-in-Ok c =
+    let a = c.args in
+    let x = (goal.at.returns-in-Ok c).After-take_at-took in
+    let next = c.take_at-took.result.next in
+    let place = c.numbers_with.ensures ∙ ap (place_with next) (c.accepted.ensures ∙ ap start_row (sym (still-accepted x))) ∙ with-start next in
+    (λ i. (place i, c.tell-in-Ok.ensures i, c.numbers_of.ensures i))
+    ∙ ap (λ (x : Result Point Refused). took_row a.place.now a.numbers.now x next) (sym c.in-Ok.is) ∙ sym (took x)
 
-pub returns-in-Refused : goal.returns-in-Refused
-returns-in-Refused c =
-    let e = c in
-    let t = e in
-    let a = t.args in
+pub returns-in-Err : goal.returns-in-Err
+returns-in-Err c =
+    let a = c.args in
     (λ i. (a.place.now, c.refuse.ensures i, a.numbers.now))
-    ∙ ap (λ (x : Walked). took_row a.place.now a.numbers.now x t.take_at-took.result.next) (sym e.in-Refused.is) ∙ sym (took (goal.at.returns-in-Refused t).After-take_at-took)
+    ∙ ap (λ (x : Result Point Refused). took_row a.place.now a.numbers.now x c.take_at-took.result.next) (sym c.in-Err.is) ∙ sym (took (goal.at.returns-in-Err c).After-take_at-took)

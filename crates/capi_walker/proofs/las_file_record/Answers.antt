@@ -13,8 +13,6 @@ returns-then-place-ne0 c = rw (ne_eqb _ _ c.if-place-ne0.true)
 pub returns : goal.returns
 unfolding record_part
 returns c =
-    let r = c in
-    let e = r in
-    let a = e.args in
-    let bytes = r.record_at-record.ensures ∙ ap (record_of a.file.now) r.place_from.ensures in
-    rw (eq-eqb _ _ e.if-place-ne0.false) (c.tell_part.ensures ∙ λ i. part_row (get_or a.place.now 1 0) (length (bytes i)))
+    let a = c.args in
+    let bytes = c.record_at-record.ensures ∙ ap (record_of a.file.now) c.place_from.ensures in
+    rw (eq-eqb _ _ c.if-place-ne0.false) (c.tell_part.ensures ∙ λ i. part_row (get_or a.place.now 1 0) (length (bytes i)))

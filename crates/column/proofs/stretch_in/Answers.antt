@@ -1,3 +1,4 @@
+use Rattle.std.specs.Prelude.{Ok, Err}
 use Prim.Native.Nat.{ℕ, ◌+◌, ◌*◌, ◌-◌, ◌≤◌, ◌<◌, ◌^◌}
 use mathlib.Core.Path.{◌≡◌, sym, ap, subst, ◌∙◌}
 use mathlib.Core.Bool.{true}
@@ -5,7 +6,6 @@ use native.Mathlib.Nat.{mul-le-mul_right}
 use native.Mathlib.Omega.{arith}
 use Rattle.format.specs.Fields.{record_bytes}
 use Rattle.layout.specs.Placed.{laid}
-use Rattle.column.specs.declared.Filled.TheVariants.{Entries}
 use Rattle.column.specs.Column.{has_in, within}
 use Rattle.column.specs.Stretch.{inside_says, in_record, lacking, beyond, short, there}
 use Rattle.column.proofs.stretch_in.Goals as goal
@@ -14,7 +14,7 @@ use Rattle.column.proofs.stretch_in.Goals.{After-for_format-stride, Else-not-has
 pub returns-then-not-has : goal.returns-then-not-has
 returns-then-not-has c =
     let a = c.args in
-    c.refused.ensures ∙ sym (lacking a.format a.at a.points a.column a.first a.count a.room (sym c.has.ensures ∙ c.if-not-has.true))
+    ap Err c.into.ensures ∙ sym (lacking a.format a.at a.points a.column a.first a.count a.room (sym c.has.ensures ∙ c.if-not-has.true))
 
 -- the format has the field
 has : (x : Else-not-has) → has_in x.args.format x.args.column ≡ true
@@ -24,7 +24,7 @@ pub returns-then-not-within : goal.returns-then-not-within
 returns-then-not-within c =
     let b = c.args in
     let x = (goal.at.returns-then-not-within c).Else-not-has in
-    c.refused-then-not-within.ensures ∙ sym (beyond b.format b.at b.points b.column b.first b.count b.room (has x) (sym c.within.ensures ∙ c.if-not-within.true))
+    ap Err c.into-then-not-within.ensures ∙ sym (beyond b.format b.at b.points b.column b.first b.count b.room (has x) (sym c.within.ensures ∙ c.if-not-within.true))
 
 -- and the stretch is within the points
 module _ (y : Else-not-within) where
@@ -39,7 +39,7 @@ returns-then-room-count c =
     let b = c.args in
     let y = (goal.at.returns-then-room-count c).Else-not-within in
     let x = (goal.at.returns-then-room-count c).Else-not-has in
-    c.refused-then-room-count.ensures ∙ sym (short b.format b.at b.points b.column b.first b.count b.room (has x) (in_points y) c.if-room-count.true)
+    ap Err c.into-then-room-count.ensures ∙ sym (short b.format b.at b.points b.column b.first b.count b.room (has x) (in_points y) c.if-room-count.true)
 
 -- what stands before it ends in the points
 module _ (z : After-for_format-stride) where
@@ -60,8 +60,8 @@ returns c =
     let y = (goal.at.returns c).Else-not-within in
     let x = (goal.at.returns c).Else-not-has in
     let k = c.args in
-    ap (λ (m : ℕ). record { answer = Entries k.count; at = k.at + (k.first - 1) * m + c.place_in.result; stride = m; count = k.count }) (long z)
-    ∙ ap (λ (m : ℕ). record { answer = Entries k.count; at = k.at + (k.first - 1) * record_bytes k.format + m; stride = record_bytes k.format; count = k.count }) c.place_in.ensures
+    ap (λ (m : ℕ). Ok (record { at = k.at + (k.first - 1) * m + c.place_in.result; stride = m; count = k.count })) (long z)
+    ∙ ap (λ (m : ℕ). Ok (record { at = k.at + (k.first - 1) * record_bytes k.format + m; stride = record_bytes k.format; count = k.count })) c.place_in.ensures
     ∙ sym (there k.format k.at k.points k.column k.first k.count k.room (has x) (in_points y) c.if-room-count.false)
 
 pub overflow_sub-result : goal.overflow_sub-result

@@ -35,7 +35,7 @@ module _ (c : In-loop-i) where
   -- what is read of them is stored
   value : (k : ℕ) {z : ℤ} → k + 4 ≤ 12 → z ≡ to_z w32 (num 4 k (take (at + 12 - at) (drop at s))) → to_z w32 (of_z w32 z) ≡ to_z w32 (num 4 (at + k) s)
   value k h is =
-      let bytes : Bytes s = λ j. omega (arith, c.shared_slice_known-1.given j) in
+      let bytes : Bytes s = λ j. omega (arith, c.type_inv.s j) in
       stored (num 4 (at + k) s) (num-lt 4 s (at + k) bytes) (is ∙ ap (to_z w32) (num-part 4 k (at + 12 - at) at s (omega arith)))
 
   -- and one record further the next stand in the same order

@@ -1,4 +1,4 @@
-use Prim.Native.Nat.{◌+◌, ◌*◌, ◌≤◌}
+use Prim.Native.Nat.{◌+◌, ◌-◌, ◌*◌, ◌≤◌}
 use mathlib.Core.Path.{◌≡◌}
 use lib.ListN.{length, drop}
 use lib.Seq.{sets}
@@ -8,9 +8,6 @@ use Rattle.convert.specs.Asked.{TakesRun}
 use Rattle.convert.proofs.write.Given as goal
 
 -- The invariant is over what is left: laid from here on, it makes of the destination what is promised.
-abbrev pub invariant-loop-left : goal.invariant-loop-left
-invariant-loop-left l =
-    (l.at + l.left * l.plan.source_length ≤ length l.src) × (l.to + l.left * l.plan.target_length ≤ length l.dst) × (length l.dst ≡ length l.initial.dst) × TakesRun l.up l.plan l.left (drop l.at l.src) × (sets l.dst l.to (images_of l.up l.plan l.left (drop l.at l.src)) ≡ sets l.initial.dst 0 (images_of l.up l.plan l.count l.src)) × (l.table ≡ scaled_table)
-
-abbrev pub decreases-loop-left : goal.decreases-loop-left
-decreases-loop-left l = l.left
+abbrev pub invariant-loop : goal.invariant-loop
+invariant-loop l =
+    (l.at + (l.count - l.counter) * l.plan.source_length ≤ length l.src) × (l.to + (l.count - l.counter) * l.plan.target_length ≤ length l.dst) × (length l.dst ≡ length l.initial.dst) × TakesRun l.up l.plan (l.count - l.counter) (drop l.at l.src) × (sets l.dst l.to (images_of l.up l.plan (l.count - l.counter) (drop l.at l.src)) ≡ sets l.initial.dst 0 (images_of l.up l.plan l.count l.src)) × (l.table ≡ scaled_table)

@@ -15,7 +15,7 @@ step_record-requires c = search rules
 
 pub returns-then-c-gt0 : goal.returns-then-c-gt0
 unfolding later_step
-returns-then-c-gt0 c = let k = c in rw (lt-ltb _ _ k.if-c-gt0.true, ← k.later_kind.ensures) c.step_record.ensures
+returns-then-c-gt0 c = rw (lt-ltb _ _ c.if-c-gt0.true, ← c.later_kind.ensures) c.step_record.ensures
 
 pub overflow_sub-len : goal.overflow_sub-len
 unfolding later_step
@@ -27,12 +27,8 @@ told-requires c = search rules
 
 pub returns-then-c-len : goal.returns-then-c-len
 unfolding later_step
-returns-then-c-len c = let gap = c in rw (le-ltb _ _ gap.if-c-gt0.false) (c.told.ensures ∙ sym (gap-told _ _ _ _ gap.if-c-len.true))
-
-pub ended-requires : goal.ended-requires
-unfolding later_step
-ended-requires c = search rules
+returns-then-c-len c = rw (le-ltb _ _ c.if-c-gt0.false) (c.told.ensures ∙ sym (gap-told _ _ _ _ c.if-c-len.true))
 
 pub returns : goal.returns
 unfolding later_step
-returns c = rw (le-ltb _ _ c.if-c-gt0.false) (c.ended.ensures ∙ sym (gap_passed _ _ _ _ c.if-c-len.false))
+returns c = rw (le-ltb _ _ c.if-c-gt0.false) (sym (gap_passed _ _ _ _ c.if-c-len.false))

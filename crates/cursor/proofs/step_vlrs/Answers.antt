@@ -23,7 +23,7 @@ told-requires c = search rules
 
 pub returns-then-c-p : goal.returns-then-c-p
 unfolding vlrs_step
-returns-then-c-p c = let gap = c in rw (le-ltb _ _ gap.if-c-gt0.false) (c.told.ensures ∙ sym (gap-told _ _ _ _ gap.if-c-p.true))
+returns-then-c-p c = rw (le-ltb _ _ c.if-c-gt0.false) (c.told.ensures ∙ sym (gap-told _ _ _ _ c.if-c-p.true))
 
 pub step_points-requires : goal.step_points-requires
 unfolding vlrs_step

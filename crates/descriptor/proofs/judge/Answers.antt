@@ -7,7 +7,7 @@ pub returns-then-s-lt192 : goal.returns-then-s-lt192
 returns-then-s-lt192 c = sym (too_few c.args.s.now c.if-s-lt192.true)
 
 pub returns-then-u8_at-gt10 : goal.returns-then-u8_at-gt10
-returns-then-u8_at-gt10 c = let u = c in sym (no_type u.args.s.now (omega arith) (omega (arith, u.u8_at.ensures)))
+returns-then-u8_at-gt10 c = sym (no_type c.args.s.now (omega arith) (omega (arith, c.u8_at.ensures)))
 
 pub returns : goal.returns
-returns c = let u = c in sym (all_there u.args.s.now (omega arith) (omega (arith, u.u8_at.ensures)))
+returns c = sym (all_there c.args.s.now (omega arith) (omega (arith, c.u8_at.ensures)))

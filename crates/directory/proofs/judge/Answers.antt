@@ -1,3 +1,4 @@
+use Rattle.std.specs.Prelude.{Ok}
 use Prim.Native.Nat.{◌+◌, ◌*◌, ◌≤◌}
 use mathlib.Core.Path.{◌≡◌, sym, ap, ◌∙◌}
 use mathlib.Core.Bool.{Bool, true}
@@ -5,7 +6,6 @@ use native.Mathlib.Omega.{arith}
 use lib.ListN.{length}
 use Rattle.directory.specs.declared.Question.{Question}
 use Rattle.directory.specs.declared.Question.TheVariants.{Rising, Known, There, Within}
-use Rattle.directory.specs.declared.Judged.TheVariants.{Keys}
 use Rattle.directory.specs.Directory.{count_of, passes, every}
 use Rattle.directory.specs.Laws.{all, then_short, then_falling, then_unknown, then_absent, then_beyond, then_sound}
 use Rattle.directory.proofs.judge.Goals as goal
@@ -39,40 +39,26 @@ returns-then-directory-n c = let g = (a (goal.at.returns-then-directory-n c).Aft
 
 pub returns-then-not-all_pass : goal.returns-then-not-all_pass
 returns-then-not-all_pass c =
-    let x = c in
-    let g = (a (goal.at.returns-then-not-all_pass x).After-u16_at-n).args in
-    sym (then_falling g.directory.now g.doubles g.text (long (goal.at.returns-then-not-all_pass x).Else-directory-n) (told (goal.at.returns-then-not-all_pass x).After-u16_at-n Rising c.all_pass.ensures c.if-not-all_pass.true))
+    let g = (a (goal.at.returns-then-not-all_pass c).After-u16_at-n).args in
+    sym (then_falling g.directory.now g.doubles g.text (long (goal.at.returns-then-not-all_pass c).Else-directory-n) (told (goal.at.returns-then-not-all_pass c).After-u16_at-n Rising c.all_pass.ensures c.if-not-all_pass.true))
 
 pub returns-then-not-all_pass-2 : goal.returns-then-not-all_pass-2
 returns-then-not-all_pass-2 c =
-    let y = c in
-    let x = y in
-    let g = (a (goal.at.returns-then-not-all_pass-2 x).After-u16_at-n).args in
-    sym (then_unknown g.directory.now g.doubles g.text (long (goal.at.returns-then-not-all_pass-2 x).Else-directory-n) (rising (goal.at.returns-then-not-all_pass-2 y).Else-not-all_pass) (told (goal.at.returns-then-not-all_pass-2 x).After-u16_at-n Known c.all_pass-2.ensures c.if-not-all_pass-2.true))
+    let g = (a (goal.at.returns-then-not-all_pass-2 c).After-u16_at-n).args in
+    sym (then_unknown g.directory.now g.doubles g.text (long (goal.at.returns-then-not-all_pass-2 c).Else-directory-n) (rising (goal.at.returns-then-not-all_pass-2 c).Else-not-all_pass) (told (goal.at.returns-then-not-all_pass-2 c).After-u16_at-n Known c.all_pass-2.ensures c.if-not-all_pass-2.true))
 
 pub returns-then-not-all_pass-3 : goal.returns-then-not-all_pass-3
 returns-then-not-all_pass-3 c =
-    let z = c in
-    let y = z in
-    let x = y in
-    let g = (a (goal.at.returns-then-not-all_pass-3 x).After-u16_at-n).args in
-    sym (then_absent g.directory.now g.doubles g.text (long (goal.at.returns-then-not-all_pass-3 x).Else-directory-n) (rising (goal.at.returns-then-not-all_pass-3 y).Else-not-all_pass) (known (goal.at.returns-then-not-all_pass-3 z).Else-not-all_pass-2) (told (goal.at.returns-then-not-all_pass-3 x).After-u16_at-n There c.all_pass-3.ensures c.if-not-all_pass-3.true))
+    let g = (a (goal.at.returns-then-not-all_pass-3 c).After-u16_at-n).args in
+    sym (then_absent g.directory.now g.doubles g.text (long (goal.at.returns-then-not-all_pass-3 c).Else-directory-n) (rising (goal.at.returns-then-not-all_pass-3 c).Else-not-all_pass) (known (goal.at.returns-then-not-all_pass-3 c).Else-not-all_pass-2) (told (goal.at.returns-then-not-all_pass-3 c).After-u16_at-n There c.all_pass-3.ensures c.if-not-all_pass-3.true))
 
 pub returns-then-not-all_pass-4 : goal.returns-then-not-all_pass-4
 returns-then-not-all_pass-4 c =
-    let w = c in
-    let z = w in
-    let y = z in
-    let x = y in
-    let g = (a (goal.at.returns-then-not-all_pass-4 x).After-u16_at-n).args in
-    sym (then_beyond g.directory.now g.doubles g.text (long (goal.at.returns-then-not-all_pass-4 x).Else-directory-n) (rising (goal.at.returns-then-not-all_pass-4 y).Else-not-all_pass) (known (goal.at.returns-then-not-all_pass-4 z).Else-not-all_pass-2) (there (goal.at.returns-then-not-all_pass-4 w).Else-not-all_pass-3) (told (goal.at.returns-then-not-all_pass-4 x).After-u16_at-n Within c.all_pass-4.ensures c.if-not-all_pass-4.true))
+    let g = (a (goal.at.returns-then-not-all_pass-4 c).After-u16_at-n).args in
+    sym (then_beyond g.directory.now g.doubles g.text (long (goal.at.returns-then-not-all_pass-4 c).Else-directory-n) (rising (goal.at.returns-then-not-all_pass-4 c).Else-not-all_pass) (known (goal.at.returns-then-not-all_pass-4 c).Else-not-all_pass-2) (there (goal.at.returns-then-not-all_pass-4 c).Else-not-all_pass-3) (told (goal.at.returns-then-not-all_pass-4 c).After-u16_at-n Within c.all_pass-4.ensures c.if-not-all_pass-4.true))
 
 pub returns : goal.returns
 returns c =
-    let w = c in
-    let z = w in
-    let y = z in
-    let x = y in
-    let g = (a (goal.at.returns x).After-u16_at-n).args in
-    ap Keys x.u16_at-n.ensures
-    ∙ sym (then_sound g.directory.now g.doubles g.text (long (goal.at.returns x).Else-directory-n) (rising (goal.at.returns y).Else-not-all_pass) (known (goal.at.returns z).Else-not-all_pass-2) (there (goal.at.returns w).Else-not-all_pass-3) (told (goal.at.returns x).After-u16_at-n Within c.all_pass-4.ensures c.if-not-all_pass-4.false))
+    let g = (a (goal.at.returns c).After-u16_at-n).args in
+    ap Ok c.u16_at-n.ensures
+    ∙ sym (then_sound g.directory.now g.doubles g.text (long (goal.at.returns c).Else-directory-n) (rising (goal.at.returns c).Else-not-all_pass) (known (goal.at.returns c).Else-not-all_pass-2) (there (goal.at.returns c).Else-not-all_pass-3) (told (goal.at.returns c).After-u16_at-n Within c.all_pass-4.ensures c.if-not-all_pass-4.false))

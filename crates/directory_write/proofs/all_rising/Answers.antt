@@ -11,18 +11,16 @@ loop-k-init c = (omega arith, λ j h. let first : j ≡ 0 = omega arith in rw fi
 pub returns-then-keys-k : goal.returns-then-keys-k
 unfolding given_key
 returns-then-keys-k c =
-    let t = c in
-    let a = t.args in
-    let k = t.loop-k.k in
-    sym (one_fails (rising_at (given_key a.keys.now)) a.n k t.loop-k-test.true (falls (given_key a.keys.now) k (omega (arith, t.loop-k.invariant.0)) c.if-keys-k.true))
+    let a = c.args in
+    let k = c.loop-k.k in
+    sym (one_fails (rising_at (given_key a.keys.now)) a.n k c.loop-k-test.true (falls (given_key a.keys.now) k (omega (arith, c.loop-k.invariant.0)) c.if-keys-k.true))
 
 pub loop-k-preserved : goal.loop-k-preserved
 unfolding given_key
 loop-k-preserved c =
-    let t = c in
-    let a = t.args in
-    let k = t.loop-k.k in
-    (omega arith, one_more (rising_at (given_key a.keys.now)) k t.loop-k.invariant.1 (rises (given_key a.keys.now) k c.if-keys-k.false))
+    let a = c.args in
+    let k = c.loop-k.k in
+    (omega arith, one_more (rising_at (given_key a.keys.now)) k c.loop-k.invariant.1 (rises (given_key a.keys.now) k c.if-keys-k.false))
 
 pub returns : goal.returns
 returns c =

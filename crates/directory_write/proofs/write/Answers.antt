@@ -1,3 +1,4 @@
+use Rattle.std.specs.Prelude.{Ok}
 use Prim.Native.Nat.{◌+◌, ◌*◌, ◌/◌}
 use mathlib.Core.Path.{◌≡◌, sym, ap, ◌∙◌}
 use mathlib.Core.Bool.{true}
@@ -6,7 +7,6 @@ use native.Mathlib.Omega.{arith}
 use Prim.Native.Nat.{ℕ}
 use lib.ListN.{length, take}
 use lib.Seq.{length-take-le, length-sets}
-use Rattle.lent.specs.declared.Wrote.TheVariants.{Bytes}
 use Rattle.directory_write.specs.Written.{in_front, number_bytes}
 use Rattle.directory_write.specs.Laws.{stored, all_rise, then_falling, then_many, then_short, then_written}
 use Rattle.directory_write.proofs.write.Goals as goal
@@ -44,7 +44,7 @@ pub returns : goal.returns
 returns c =
     let d = c.args.dst.now in
     let ks = c.args.keys.now in
-    ap (λ (l : List ℕ). (Bytes (8 + 8 * (length ks / 4)), l))
+    ap (λ (l : List ℕ). (Ok (8 + 8 * (length ks / 4)), l))
     (stored ks d c.store_numbers.ensures c.store_numbers-2.ensures c.if-dst-wanted.false)
     ∙ sym (then_written ks d (rising (goal.at.returns c).Else-not-rising) c.if-n-gt8190.false c.if-dst-wanted.false)
 

@@ -12,18 +12,15 @@ use Rattle.extents.proofs.check_points.Goals.{Else-file-offset}
 pub returns-then-file-offset : goal.returns-then-file-offset
 unfolding first point_rule record_number
 returns-then-file-offset c =
-    let b = c in
-    let start = b in
-    let o = start.args.o in
-    let late = beyond (length start.args.file.now) o.offset_to_point_data o.point_data_record_length o.number_of_point_records start.requires.within start.requires.some-length b.if-file-offset.true in
+    let o = c.args.o in
+    let late = beyond (length c.args.file.now) o.offset_to_point_data o.point_data_record_length o.number_of_point_records c.requires.within c.requires.some-length c.if-file-offset.true in
     rw (lt-leb _ _ late) c.refused.ensures
 
 -- the points end in the file, so neither the product nor the sum wraps
 ends : (c : Else-file-offset) → (let a = c.args in a.o.offset_to_point_data + a.o.number_of_point_records * a.o.point_data_record_length ≤ length a.file.now)
 ends c =
-    let start = c in
-    let o = start.args.o in
-    inside (length start.args.file.now) o.offset_to_point_data o.point_data_record_length o.number_of_point_records start.requires.within start.requires.some-length c.if-file-offset.false
+    let o = c.args.o in
+    inside (length c.args.file.now) o.offset_to_point_data o.point_data_record_length o.number_of_point_records c.requires.within c.requires.some-length c.if-file-offset.false
 
 pub returns : goal.returns
 unfolding first point_rule

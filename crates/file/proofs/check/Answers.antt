@@ -1,25 +1,17 @@
-use mathlib.Core.Path.{◌≡◌, ap, sym, ◌∙◌}
-use Rattle.header.specs.declared.HeaderRead.{HeaderRead}
-use Rattle.header.specs.declared.HeaderAnswer.TheVariants.{Whole, Refused}
-use Rattle.header.specs.Judged.{judged}
-use Rattle.header.specs.Answers.{answer_is}
-use Rattle.rules.specs.Rules.{first}
-use Rattle.file.specs.Rules.{readable, standard_size, rules_of, checked_of}
-use Rattle.file.specs.Laws.{header_number}
+use mathlib.Core.Path.{sym, ◌∙◌}
+use Rattle.std.proofs.lemmas.Result.{err_from_is_err_and}
+use Rattle.extents.specs.Extents.{records_of}
+use Rattle.file.specs.Opened.{opened-accepted, opened-refused}
 use Rattle.file.proofs.check.Goals as goal
 
-pub returns-in-Whole : goal.returns-in-Whole
-unfolding checked_of rules_of readable standard_size
-returns-in-Whole c =
-    let read = c.read_from-read in
-    let s = c.args.file.now in
-    let whole : judged s ≡ Whole c.in-Whole.block c.in-Whole.«end» = sym (answer_is s) ∙ ap (λ (r : HeaderRead). r.answer) (sym read.ensures) ∙ c.in-Whole.is in
-    rw (whole, ← read.ensures, ← c.of.ensures) c.check.ensures
+pub returns-in_err-header : goal.returns-in_err-header
+returns-in_err-header c =
+    let a = c.args in
+    let p = err_from_is_err_and c.from_residual.result c.from_residual.ensures.1 in
+    rw (p.1, p.2) (sym (opened-refused a.allowance a.file.now (sym c.open.ensures ∙ c.in_err-header.was)))
 
-pub returns-in-Refused : goal.returns-in-Refused
-unfolding checked_of rules_of readable first
-returns-in-Refused c =
-    let read = c.read_from-read in
-    let s = c.args.file.now in
-    let refused : judged s ≡ Refused c.in-Refused.refusal = sym (answer_is s) ∙ ap (λ (r : HeaderRead). r.answer) (sym read.ensures) ∙ c.in-Refused.is in
-    rw (refused, header_number s refused) c.refused.ensures
+pub returns : goal.returns
+unfolding records_of
+returns c =
+    let a = c.args in
+    rw c.of-o.ensures (sym (opened-accepted a.allowance a.file.now (sym c.open.ensures ∙ c.in_ok-header.was)).0)

@@ -14,4 +14,4 @@ pub returns : goal.returns
 unfolding point_format
 returns c =
     let record_length = c.args.o.point_data_record_length in
-    ap (λ (n : ℕ). with_extra n c.in-Is.format) c.beyond-extra.ensures ∙ ap (filled record_length) (sym c.in-Is.is ∙ c.new.ensures)
+    ap (λ (n : ℕ). with_extra n c.in-Ok.format) c.beyond-extra.ensures ∙ ap (filled record_length) (sym c.in-Ok.is ∙ c.new.ensures)

@@ -1,6 +1,7 @@
 use Prim.Native.Nat.{ℕ}
 use mathlib.Core.Path.{◌≡◌, ap, sym, ◌∙◌}
 use native.Mathlib.Omega.{arith}
+use borrow.Author.Tests.{eqb-true}
 use lib.ListN.{length}
 use Rattle.finding.specs.Told.{plus, told-nowhere}
 use Rattle.findings.specs.Found.{odd_points}
@@ -15,16 +16,17 @@ counted x =
     let v = x.args.survey in
     odd_all x.args.file.now v.extended v.at v.each x.args.number v.count ∙ sym x.requires.odd
 
-pub returns-then-out-eq0 : goal.returns-then-out-eq0
-returns-then-out-eq0 c =
+pub returns-then-is_empty : goal.returns-then-is_empty
+returns-then-is_empty c =
     let a = c.args in
+    let empty = eqb-true _ _ (sym c.is_empty.ensures ∙ c.if-is_empty.true) in
     let fs = odd_points a.file.now a.survey a.number in
-    ap (λ (k : ℕ). (k, a.out.now)) (c.plus.ensures ∙ ap (plus a.n) (sym (counted (goal.at.returns-then-out-eq0 c).Start))) ∙ sym (told-nowhere fs a.n a.out.now (omega (arith, c.if-out-eq0.true)))
+    ap (λ (k : ℕ). (k, a.out.now)) (c.plus.ensures ∙ ap (plus a.n) (sym (counted (goal.at.returns-then-is_empty c).Start))) ∙ sym (told-nowhere fs a.n a.out.now (omega arith))
 
-pub returns-then-returns-eq0 : goal.returns-then-returns-eq0
-returns-then-returns-eq0 c =
+pub returns-then-odd-eq0 : goal.returns-then-odd-eq0
+returns-then-odd-eq0 c =
     let a = c.args in
-    sym (told-empty (odd_points a.file.now a.survey a.number) (a.n, a.out.now) (counted (goal.at.returns-then-returns-eq0 c).Start ∙ c.if-returns-eq0.true))
+    sym (told-empty (odd_points a.file.now a.survey a.number) (a.n, a.out.now) (counted (goal.at.returns-then-odd-eq0 c).Start ∙ c.if-odd-eq0.true))
 
 pub returns : goal.returns
 unfolding odd_points

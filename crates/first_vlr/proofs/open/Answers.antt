@@ -1,23 +1,20 @@
-use mathlib.Core.Path.{◌≡◌, sym, ap, ◌∙◌}
-use Rattle.header.specs.declared.HeaderRead.{HeaderRead}
+use Rattle.std.specs.Prelude.{Ok}
+use mathlib.Core.Path.{sym, ap, ◌∙◌}
+use Rattle.std.proofs.lemmas.Result.{err_from_is_err_and}
 use Rattle.outline.specs.Outline.{outline_of}
+use Rattle.file.specs.Opened.{opened-accepted, opened-refused}
 use Rattle.cursor.specs.Parts.{outline_in}
-use Rattle.first_vlr.specs.declared.Opened.TheVariants.{File}
 use Rattle.first_vlr.specs.First.{opened_by, opened_of}
 use Rattle.first_vlr.proofs.open.Goals as goal
-use Rattle.first_vlr.proofs.open.Goals.{After-of}
 
-outlined : (c : After-of) → c.of.result ≡ outline_in c.args.file.now
-outlined c = c.of.ensures ∙ ap (λ (r : HeaderRead). outline_of r.header) c.read_from-read.ensures
-
-pub returns-in-Accepted : goal.returns-in-Accepted
+pub returns-in_err-header : goal.returns-in_err-header
 unfolding opened_of
-returns-in-Accepted c =
-    let s = c.args.file.now in
-    ap File (outlined c) ∙ ap (opened_by (outline_in s)) (sym c.in-Accepted.is ∙ c.check.ensures)
+returns-in_err-header c =
+    let p = err_from_is_err_and c.from_residual.result c.from_residual.ensures.1 in
+    rw (p.1, p.2) (ap (opened_by (outline_in c.args.file.now)) (sym (opened-refused c.args.allowance c.args.file.now (sym c.open.ensures ∙ c.in_err-header.was))))
 
-pub returns-in-Refused : goal.returns-in-Refused
+pub returns : goal.returns
 unfolding opened_of
-returns-in-Refused c =
-    let s = c.args.file.now in
-    ap (opened_by (outline_in s)) (sym c.in-Refused.is ∙ c.check.ensures)
+returns c =
+    let o = opened-accepted c.args.allowance c.args.file.now (sym c.open.ensures ∙ c.in_ok-header.was) in
+    ap Ok (c.of.ensures ∙ ap outline_of o.1) ∙ ap (opened_by (outline_in c.args.file.now)) (sym o.0)

@@ -1,22 +1,22 @@
+use Rattle.std.specs.Prelude.{Result, Ok}
+use Rattle.refusal.specs.declared.Refusal.{Refusal}
 use Prim.Native.Nat.{ℕ, ◌+◌, ◌*◌, ◌/◌, ◌%◌, ◌<◌}
 use mathlib.Core.Path.{◌≡◌}
 use lib.Dec.{eqb}
 use Rattle.flags.proofs.Moved.{first-moved, second_moved}
 use Rattle.refusal.proofs.Tests.{tests}
 use Rattle.flags.specs.declared.Flags.TheVariants.{ThreeByte}
-use Rattle.flags.specs.declared.TwoBytes.{TwoBytes}
-use Rattle.flags.specs.declared.TwoBytes.TheVariants.{Bytes}
 use Rattle.flags.specs.Readings.{bit}
 use Rattle.flags.specs.Bytes.{old_first, old_second, two_bytes_of, old_bytes_of}
 use borrow.Author.Rules.{rules}
 use Rattle.flags.proofs.two_bytes.Goals as goal
 
 -- the two bytes of a class and of what the three bytes' first two say, and how they are made
-abbrev said : ℕ → ℕ → ℕ → TwoBytes
-said a b class = Bytes (old_first (a % 16) (a / 16 % 16) (bit 6 b) (bit 7 b)) (old_second class (eqb (b % 2) 1) (bit 1 b) (bit 2 b))
+abbrev said : ℕ → ℕ → ℕ → Result (ℕ × ℕ) Refusal
+said a b class = Ok ((old_first (a % 16) (a / 16 % 16) (bit 6 b) (bit 7 b)), (old_second class (eqb (b % 2) 1) (bit 1 b) (bit 2 b)))
 
-made : (a b class : ℕ) → b < 256 → Bytes (b / 64 * 64 + a / 16 % 16 * 8 + a % 16) (b % 8 * 32 + class) ≡ said a b class
-made a b class h = λ i. Bytes (first-moved b (a / 16 % 16) (a % 16) h i) (second_moved b class i)
+made : (a b class : ℕ) → b < 256 → Ok ((b / 64 * 64 + a / 16 % 16 * 8 + a % 16), (b % 8 * 32 + class)) ≡ said a b class
+made a b class h = λ i. Ok ((first-moved b (a / 16 % 16) (a % 16) h i), (second_moved b class i))
 
 pub returns-then-b-eq1 : goal.returns-then-b-eq1
 unfolding two_bytes_of old_bytes_of

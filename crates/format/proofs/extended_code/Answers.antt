@@ -1,31 +1,31 @@
 use Rattle.format.specs.Codes.{is_in, coded, first_with, code_by}
 use Rattle.format.proofs.extended_code.Goals as goal
 
--- What each way through the tests has told is put into the definition, which then computes.
-pub returns-then-waveform : goal.returns-then-waveform
+-- What each arm has told is put into the definition, which then computes.
+pub returns-in-false-false-false : goal.returns-in-false-false-false
 unfolding is_in coded first_with code_by
-returns-then-waveform c = rw (c.if-color.true, c.if-nir.true, c.if-waveform.true)
+returns-in-false-false-false c = rw (c.in-false-false-false.is-0, c.in-false-false-false.is-1, c.in-false-false-false.is-2)
 
-pub returns-then-nir : goal.returns-then-nir
+pub returns-in-true-false-false : goal.returns-in-true-false-false
 unfolding is_in coded first_with code_by
-returns-then-nir c = rw (c.if-color.true, c.if-nir.true, c.if-waveform.false)
+returns-in-true-false-false c = rw (c.in-true-false-false.is-0, c.in-true-false-false.is-1, c.in-true-false-false.is-2)
 
-pub returns-then-waveform-2 : goal.returns-then-waveform-2
+pub returns-in-true-true-false : goal.returns-in-true-true-false
 unfolding is_in coded first_with code_by
-returns-then-waveform-2 c = rw (c.if-color.true, c.if-nir.false, c.if-waveform-2.true)
+returns-in-true-true-false c = rw (c.in-true-true-false.is-0, c.in-true-true-false.is-1, c.in-true-true-false.is-2)
 
-pub returns-then-color : goal.returns-then-color
+pub returns-in-false-false-true : goal.returns-in-false-false-true
 unfolding is_in coded first_with code_by
-returns-then-color c = rw (c.if-color.true, c.if-nir.false, c.if-waveform-2.false)
+returns-in-false-false-true c = rw (c.in-false-false-true.is-0, c.in-false-false-true.is-1, c.in-false-false-true.is-2)
 
-pub returns-then-nir-2 : goal.returns-then-nir-2
+pub returns-in-true-true-true : goal.returns-in-true-true-true
 unfolding is_in coded first_with code_by
-returns-then-nir-2 c = rw (c.if-color.false, c.if-nir-2.true)
+returns-in-true-true-true c = rw (c.in-true-true-true.is-0, c.in-true-true-true.is-1, c.in-true-true-true.is-2)
 
-pub returns-then-waveform-3 : goal.returns-then-waveform-3
+pub returns-in-false-true-default : goal.returns-in-false-true-default
 unfolding is_in coded first_with code_by
-returns-then-waveform-3 c = rw (c.if-color.false, c.if-nir-2.false, c.if-waveform-3.true)
+returns-in-false-true-default c = rw (c.in-false-true-default.is-0, c.in-false-true-default.is-1)
 
-pub returns : goal.returns
+pub returns-in-true-false-true : goal.returns-in-true-false-true
 unfolding is_in coded first_with code_by
-returns c = rw (c.if-color.false, c.if-nir-2.false, c.if-waveform-3.false)
+returns-in-true-false-true c = rw (c.in-true-false-true.is-0, c.in-true-false-true.is-1, c.in-true-false-true.is-2)

@@ -2,31 +2,31 @@ use Rattle.format.specs.Codes.{is_in, coded, first_with, code_by}
 use Rattle.format.proofs.Lacking.{timeless_waveform}
 use Rattle.format.proofs.legacy_code.Goals as goal
 
--- What each way through the tests has told is put into the definition, which then computes.
-pub returns-then-color : goal.returns-then-color
+-- What each arm has told is put into the definition, which then computes.
+pub returns-in-false-false-false : goal.returns-in-false-false-false
 unfolding is_in coded first_with code_by
-returns-then-color c = rw (c.if-waveform.true, c.if-gps_time.true, c.if-color.true)
+returns-in-false-false-false c = rw (c.in-false-false-false.is-0, c.in-false-false-false.is-1, c.in-false-false-false.is-2)
 
-pub returns-then-gps_time : goal.returns-then-gps_time
+pub returns-in-false-true-false : goal.returns-in-false-true-false
 unfolding is_in coded first_with code_by
-returns-then-gps_time c = rw (c.if-waveform.true, c.if-gps_time.true, c.if-color.false)
+returns-in-false-true-false c = rw (c.in-false-true-false.is-0, c.in-false-true-false.is-1, c.in-false-true-false.is-2)
 
-pub returns-then-waveform : goal.returns-then-waveform
+pub returns-in-false-false-true : goal.returns-in-false-false-true
 unfolding is_in coded first_with code_by
-returns-then-waveform c = rw (c.if-waveform.true, c.if-gps_time.false) (timeless_waveform c.args.color)
+returns-in-false-false-true c = rw (c.in-false-false-true.is-0, c.in-false-false-true.is-1, c.in-false-false-true.is-2)
 
-pub returns-then-color-2 : goal.returns-then-color-2
+pub returns-in-false-true-true : goal.returns-in-false-true-true
 unfolding is_in coded first_with code_by
-returns-then-color-2 c = rw (c.if-waveform.false, c.if-gps_time-2.true, c.if-color-2.true)
+returns-in-false-true-true c = rw (c.in-false-true-true.is-0, c.in-false-true-true.is-1, c.in-false-true-true.is-2)
 
-pub returns-then-gps_time-2 : goal.returns-then-gps_time-2
+pub returns-in-true-true-false : goal.returns-in-true-true-false
 unfolding is_in coded first_with code_by
-returns-then-gps_time-2 c = rw (c.if-waveform.false, c.if-gps_time-2.true, c.if-color-2.false)
+returns-in-true-true-false c = rw (c.in-true-true-false.is-0, c.in-true-true-false.is-1, c.in-true-true-false.is-2)
 
-pub returns-then-color-3 : goal.returns-then-color-3
+pub returns-in-true-true-true : goal.returns-in-true-true-true
 unfolding is_in coded first_with code_by
-returns-then-color-3 c = rw (c.if-waveform.false, c.if-gps_time-2.false, c.if-color-3.true)
+returns-in-true-true-true c = rw (c.in-true-true-true.is-0, c.in-true-true-true.is-1, c.in-true-true-true.is-2)
 
-pub returns : goal.returns
+pub returns-in-true-false-default : goal.returns-in-true-false-default
 unfolding is_in coded first_with code_by
-returns c = rw (c.if-waveform.false, c.if-gps_time-2.false, c.if-color-3.false)
+returns-in-true-false-default c = rw (c.in-true-false-default.is-0, c.in-true-false-default.is-1) (timeless_waveform c.args.color)

@@ -1,16 +1,10 @@
-use mathlib.Core.Path.{◌≡◌, ap, ◌∙◌}
 use borrow.Author.Rules.{rules}
-use lib.ListN.{length, get_or}
-use Rattle.header_convert.specs.Turned.{every, fits32}
-use Rattle.header_convert.specs.Lists.{numbers, all-numbers, one_by_one_lem}
+use borrow.Author.Tests.{tests}
+use Rattle.std.proofs.lemmas.Iterator.{YieldsList-from_slice}
+use Rattle.std.proofs.lemmas.Iterator.Search.{all_from_yields_List}
+use Rattle.header_convert.specs.Turned.{fits32}
 use Rattle.header_convert.proofs.five_fit.Goals as goal
-use Rattle.header_convert.proofs.five_fit.Goals.{Start}
-
--- the array has five numbers
-five : (s : Start) → length s.args.xs ≡ 5
-five s = search rules
 
 pub returns : goal.returns
 returns c =
-    let xs = c.args.xs in
-    one_by_one_lem fits32 (fits32 (get_or xs 0 0)) (numbers 4 1 xs) ∙ ap (every fits32) (all-numbers 5 xs (five c))
+    all_from_yields_List fits32 _ _ _ c.all.ensures.ran (YieldsList-from_slice c.args.xs cc) (λ x b q k. search (rules, tests))

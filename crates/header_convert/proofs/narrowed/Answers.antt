@@ -6,12 +6,13 @@ use native.Mathlib.Omega.{arith}
 use borrow.Author.Rules.{rules}
 use borrow.Author.Tests.{ltb-true}
 use lib.ListN.{length, get_or}
-use Rattle.header_convert.specs.Turned.{every, fits32}
+use Rattle.std.specs.List.{list_all}
+use Rattle.header_convert.specs.Turned.{fits32}
 use Rattle.header_convert.specs.Lists.{all-numbers, each-passes}
 use Rattle.header_convert.proofs.narrowed.Goals as goal
 
 -- each of five numbers that fit
-small : (xs : List ℕ) → length xs ≡ 5 → every fits32 xs ≡ true → (k : ℕ) → k < 5 → get_or xs k 0 < 2 ^ 32
+small : (xs : List ℕ) → length xs ≡ 5 → list_all fits32 xs ≡ true → (k : ℕ) → k < 5 → get_or xs k 0 < 2 ^ 32
 small xs five fit k h = ltb-true _ _ (each-passes fits32 xs fit k (omega arith))
 
 pub overflow_cast-result : goal.overflow_cast-result

@@ -19,5 +19,5 @@ returns c =
       record_length = h.point_data_record_length + 2;
     })
     0 (replicate 5 0) true
-    (record { number_of_point_records = c.wide.ensures i; number_of_points_by_return = c.fifteen.ensures i })
+    (record { number_of_point_records = h.number_of_point_records; number_of_points_by_return = c.fifteen.ensures i })
     h

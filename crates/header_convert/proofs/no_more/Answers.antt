@@ -1,16 +1,15 @@
-use mathlib.Core.Path.{◌≡◌, ap, ◌∙◌}
 use borrow.Author.Rules.{rules}
-use lib.ListN.{length, get_or}
-use Rattle.header_convert.specs.Turned.{every, is_zero}
-use Rattle.header_convert.specs.Lists.{numbers, last_numbers, one_by_one_lem}
+use borrow.Author.Tests.{tests}
+use lib.ListN.{length, drop}
+use mathlib.Core.Path.{◌≡◌, ◌∙◌}
+use native.Mathlib.Omega.{arith}
+use Rattle.std.proofs.Common.{length-drop, take_all}
+use Rattle.std.proofs.lemmas.Iterator.{YieldsList-from_slice}
+use Rattle.std.proofs.lemmas.Iterator.Search.{all_from_yields_List}
+use Rattle.header_convert.specs.Turned.{is_zero}
 use Rattle.header_convert.proofs.no_more.Goals as goal
-use Rattle.header_convert.proofs.no_more.Goals.{Start}
-
--- the array has fifteen numbers
-fifteen : (s : Start) → length s.args.xs ≡ 15
-fifteen s = search rules
 
 pub returns : goal.returns
 returns c =
-    let xs = c.args.xs in
-    one_by_one_lem is_zero (is_zero (get_or xs 5 0)) (numbers 9 6 xs) ∙ ap (every is_zero) (last_numbers 10 5 xs (fifteen c))
+    let fifteen : length c.args.xs ≡ 15 = search rules in
+    all_from_yields_List is_zero _ _ _ c.all.ensures.ran (YieldsList-from_slice (drop 5 c.args.xs) (c.iter.ensures.rest ∙ take_all 10 (drop 5 c.args.xs) (simp length-drop (omega arith)))) (λ x b q k. search (rules, tests))

@@ -1,12 +1,13 @@
 use mathlib.Core.Path.{◌≡◌, ◌∙◌}
 use mathlib.Core.Bool.{true, false}
 use Prim.Native.Nat.{◌-◌}
+use Rattle.std.specs.List.{list_all}
 use Rattle.header.specs.Header.{no_large}
-use Rattle.header_convert.specs.Turned.{old_by_return, every, fits32, changed_of, old_places, old_header}
+use Rattle.header_convert.specs.Turned.{old_by_return, fits32, changed_of, old_places, old_header}
 use Rattle.header_convert.proofs.old_header.Goals as goal
 use Rattle.header_convert.proofs.old_header.Goals.{After-narrowed-by_return, After-old_by_return}
 
-fit : (c : After-old_by_return) → every fits32 c.old_by_return.result ≡ true
+fit : (c : After-old_by_return) → list_all fits32 c.old_by_return.result ≡ true
 fit c = rw c.old_by_return.ensures c.requires.by-return
 
 by-return : (c : After-narrowed-by_return) → c.narrowed-by_return.result ≡ old_by_return c.args.header

@@ -7,4 +7,4 @@ use Rattle.header_write.proofs.set_f64.Goals as goal
 pub returns : goal.returns
 returns c =
     let a = c.args in
-    c.set_u64.ensures ∙ ap (λ (n : ℕ). sets a.d.now a.at (bytes 8 n)) c.f64_bits.ensures
+    c.set_u64.ensures ∙ ap (λ (n : ℕ). sets a.d.now a.at (bytes 8 n)) c.to_bits.ensures

@@ -14,7 +14,7 @@ source-bytes s = some_bytes s.args.plan.source _ s.requires.from
 
 -- the source is long enough
 there : (c : Else-src-plan) → c.args.count * c.args.plan.source_length ≤ length c.args.src.now
-there c = let s = c in div-le _ s.args.count _ (source-bytes (goal.at.Else-src-plan s).Start) c.if-src-plan.false
+there c = div-le _ c.args.count _ (source-bytes (goal.at.Else-src-plan c).Start) c.if-src-plan.false
 
 pub judge_records-requires : goal.judge_records-requires
 judge_records-requires c =
@@ -23,7 +23,7 @@ judge_records-requires c =
 pub returns-then-src-plan : goal.returns-then-src-plan
 unfolding judged_of
 returns-then-src-plan c =
-    rw (lt-ltb _ _ (div-lt _ c.args.count _ (source-bytes (goal.at.returns-then-src-plan c).Start) c.if-src-plan.true), c.wanted.ensures)
+    rw (c.into.ensures, lt-ltb _ _ (div-lt _ c.args.count _ (source-bytes (goal.at.returns-then-src-plan c).Start) c.if-src-plan.true), c.wanted-wanted.ensures)
 
 pub returns-then-up : goal.returns-then-up
 unfolding judged_of
@@ -31,7 +31,7 @@ returns-then-up c = rw (le-ltb _ _ (there (goal.at.returns-then-up c).Else-src-p
 
 pub returns : goal.returns
 unfolding judged_of
-returns c = let e = c in rw (le-ltb _ _ (there (goal.at.returns e).Else-src-plan), e.if-up.false) c.judge_records.ensures
+returns c = rw (le-ltb _ _ (there (goal.at.returns c).Else-src-plan), c.if-up.false) c.judge_records.ensures
 
 pub nonzero_div-src : goal.nonzero_div-src
 nonzero_div-src c = source-bytes (goal.at.nonzero_div-src c).Start

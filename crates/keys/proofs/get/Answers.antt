@@ -1,26 +1,27 @@
 use mathlib.Core.Path.{◌≡◌, sym, ap, ◌∙◌}
-use Rattle.keys.specs.declared.Opened.{Opened}
-use Rattle.keys.specs.declared.KeyAt.{KeyAt}
+use Rattle.std.proofs.lemmas.Result.{err_from_is_err_and}
+use Rattle.std.specs.Prelude.{Option, Result}
+use Rattle.refusal.specs.declared.Refused.{Refused}
+use Rattle.keys.specs.declared.KeyValue.{KeyValue}
+use Rattle.keys.specs.declared.Keys.{Keys}
 use Rattle.keys.specs.Keys.{value_by, got_by, got_of}
 use Rattle.keys.proofs.get.Goals as goal
-use Rattle.keys.proofs.get.Goals.{After-find, After-open}
+use Rattle.keys.proofs.get.Goals.{After-find}
 
--- by what the keys are
-by-keys : (x : After-open) {o : Opened} → x.«open».result ≡ o → (let a = x.args in got_by o a.wanted a.file.now ≡ got_of a.allowance a.wanted a.file.now)
+-- by what is found among the keys of the file
+by-found : (x : After-find) {k : Option KeyValue} → x.find.result ≡ k → value_by k ≡ got_of x.args.allowance x.args.wanted x.args.file.now
 unfolding got_of
-by-keys x is = ap (λ (o : Opened). got_by o x.args.wanted x.args.file.now) (sym is ∙ x.«open».ensures)
-
--- and what is found
-by-found : (x : After-find) {k : KeyAt} → x.find.result ≡ k → (let a = x.args in value_by k ≡ got_of a.allowance a.wanted a.file.now)
 by-found x is =
-    let n = x in
-    ap value_by (sym is ∙ x.find.ensures) ∙ by-keys (goal.at.After-find n).After-open n.in-Keys.is
+    ap value_by (sym is ∙ x.find.ensures) ∙ ap (λ (o : Result Keys Refused). got_by o x.args.wanted x.args.file.now) (sym x.in_ok-keys.was ∙ x.«open».ensures)
 
-pub returns-in-Is : goal.returns-in-Is
-returns-in-Is c = by-found (goal.at.returns-in-Is c).After-find c.in-Is.is
+pub returns-in_err-keys : goal.returns-in_err-keys
+unfolding got_of
+returns-in_err-keys c =
+    let p = err_from_is_err_and c.from_residual.result c.from_residual.ensures.1 in
+    rw (p.1, p.2) (ap (λ (o : Result Keys Refused). got_by o c.args.wanted c.args.file.now) (sym c.in_err-keys.was ∙ c.«open».ensures))
 
-pub returns-in-Nothing : goal.returns-in-Nothing
-returns-in-Nothing c = by-found (goal.at.returns-in-Nothing c).After-find c.in-Nothing.is
+pub returns-in_default : goal.returns-in_default
+returns-in_default c = rw c.into.ensures (by-found (goal.at.returns-in_default c).After-find c.in_default.is)
 
-pub returns-in-Refused : goal.returns-in-Refused
-returns-in-Refused c = by-keys (goal.at.returns-in-Refused c).After-open c.in-Refused.is
+pub returns : goal.returns
+returns c = by-found (goal.at.returns c).After-find c.in-Some.is

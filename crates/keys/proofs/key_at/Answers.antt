@@ -10,6 +10,4 @@ returns-then-keys-k c = let a = c.args in rw (le-leb a.keys.count a.k (omega (ar
 pub returns : goal.returns
 unfolding key_at_of
 returns c =
-    let x = c in
-    let a = x.args in
-    rw (c.told.ensures, c.entry_at-entry.ensures, c.bytes_of.ensures, lt-leb a.keys.count a.k (omega (arith, x.if-keys-k.false)))
+    rw (c.told.ensures, c.entry_at-entry.ensures, c.bytes_of.ensures, lt-leb c.args.keys.count c.args.k (omega (arith, c.if-keys-k.false)))

@@ -1,11 +1,11 @@
+use Rattle.std.specs.Prelude.{Option, Result, Ok}
+use Rattle.std.proofs.lemmas.Result.{err_from_is_err_and}
+use Rattle.refusal.specs.declared.Refusal.{Refusal}
+use Rattle.first_vlr.specs.declared.Span.{Span}
 use mathlib.Core.Path.{◌≡◌, sym, ap, ◌∙◌}
 use Prim.Native.Nat.{ℕ}
-use mathlib.Core.List.{List}
 use lib.ListN.{take, drop}
-use Rattle.first_vlr.specs.declared.FirstVlr.{FirstVlr}
-use Rattle.directory.specs.declared.Judged.{Judged}
 use Rattle.directory.specs.Directory.{judged_of}
-use Rattle.keys.specs.declared.Opened.TheVariants.{Keys}
 use Rattle.keys.specs.Keys.{target_of, opened_by, opened_in}
 use Rattle.keys.proofs.open_in.Goals as goal
 use Rattle.keys.proofs.open_in.Goals.{After-judge}
@@ -13,25 +13,22 @@ use Rattle.keys.proofs.open_in.Goals.{After-judge}
 pub returns-in_default : goal.returns-in_default
 unfolding opened_in
 returns-in_default c =
-    let a = c.args in
-    ap (λ (v : FirstVlr). opened_in v a.doubles a.text a.file.now) (sym c.in_default.is)
+    rw c.into.ensures (ap (λ (v : Option Span). opened_in v c.args.doubles c.args.text c.args.file.now) (sym c.in_default.is))
 
 -- by what the directory is judged to be
-module _ (j : After-judge) where
-  abbrev d : List ℕ
-  d = take j.in-At.length (drop j.in-At.start j.args.file.now)
+by-judged : (j : After-judge) {x : Result ℕ Refusal} → j.judge.result ≡ x → opened_by j.in-Some.span.start j.in-Some.span.length j.args.doubles j.args.text x ≡ opened_in j.args.found j.args.doubles j.args.text j.args.file.now
+unfolding opened_in
+by-judged j is =
+    let judged : j.judge.result ≡ judged_of (take j.in-Some.span.length (drop j.in-Some.span.start j.args.file.now)) (target_of j.args.doubles) (target_of j.args.text) = j.judge.ensures ∙ (λ i. judged_of (j.bytes_of.ensures i) (j.target.ensures i) (j.target-2.ensures i)) in
+    ap (opened_by j.in-Some.span.start j.in-Some.span.length j.args.doubles j.args.text) (sym is ∙ judged)
+    ∙ ap (λ (v : Option Span). opened_in v j.args.doubles j.args.text j.args.file.now) (sym j.in-Some.is)
 
-  by-judged : {x : Judged} → j.judge.result ≡ x → opened_by j.in-At.start j.in-At.length j.args.doubles j.args.text x ≡ opened_in j.args.found j.args.doubles j.args.text j.args.file.now
-  unfolding opened_in
-  by-judged is =
-      let judged : j.judge.result ≡ judged_of d (target_of j.args.doubles) (target_of j.args.text) = j.judge.ensures ∙ (λ i. judged_of (j.bytes_of.ensures i) (j.target.ensures i) (j.target-2.ensures i)) in
-      ap (opened_by j.in-At.start j.in-At.length j.args.doubles j.args.text) (sym is ∙ judged)
-      ∙ ap (λ (v : FirstVlr). opened_in v j.args.doubles j.args.text j.args.file.now) (sym j.in-At.is)
+pub returns-in_err-count : goal.returns-in_err-count
+returns-in_err-count c =
+    let p = err_from_is_err_and c.from_residual.result c.from_residual.ensures.1 in
+    rw (p.1, p.2) (by-judged (goal.at.returns-in_err-count c).After-judge c.in_err-count.was)
 
-pub returns-in-Keys : goal.returns-in-Keys
-returns-in-Keys c =
-    (λ i. Keys (record { count = c.in-Keys.count; start = c.in-At.start; length = c.in-At.length; doubles = c.start_of.ensures i; text = c.start_of-in-Keys.ensures i }))
-    ∙ by-judged (goal.at.returns-in-Keys c).After-judge c.in-Keys.is
-
-pub returns-in-Refused : goal.returns-in-Refused
-returns-in-Refused c = by-judged (goal.at.returns-in-Refused c).After-judge c.in-Refused.is
+pub returns : goal.returns
+returns c =
+    (λ i. Ok (record { count = c.in_ok-count.count; start = c.in-Some.span.start; length = c.in-Some.span.length; doubles = c.start_of.ensures i; text = c.start_of-2.ensures i }))
+    ∙ by-judged (goal.at.returns c).After-judge c.in_ok-count.was

@@ -25,12 +25,10 @@ ends x = omega (arith, x.bytes-all.ensures)
 
 pub overflow_add-result : goal.overflow_add-result
 overflow_add-result c =
-    let x = c in
-    let a = x.args in
-    record { fits = omega (arith, ends (goal.at.overflow_add-result x).Else-len-base-2, c.bytes.ensures, bytes-add a.entry.location a.entry.index a.entry.count) }
+    let a = c.args in
+    record { fits = omega (arith, ends (goal.at.overflow_add-result c).Else-len-base-2, c.bytes.ensures, bytes-add a.entry.location a.entry.index a.entry.count) }
 
 pub returns : goal.returns
 unfolding part_of
 returns c =
-    let x = c in
-    rw (le-leb _ _ (ends (goal.at.returns x).Else-len-base-2), c.bytes.ensures, c.bytes-2.ensures)
+    rw (le-leb _ _ (ends (goal.at.returns c).Else-len-base-2), c.bytes.ensures, c.bytes-2.ensures)

@@ -3,4 +3,4 @@ use Rattle.le.specs.Real.{f32_of}
 use Rattle.le.proofs.f32_at.Goals as goal
 
 pub returns : goal.returns
-returns c = c.f32_of.ensures ∙ ap f32_of c.u32_at.ensures
+returns c = c.from_bits.ensures ∙ ap f32_of c.u32_at.ensures

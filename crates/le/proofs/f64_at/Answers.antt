@@ -3,4 +3,4 @@ use Rattle.le.specs.Real.{f64_of}
 use Rattle.le.proofs.f64_at.Goals as goal
 
 pub returns : goal.returns
-returns c = c.f64_of.ensures ∙ ap f64_of c.u64_at.ensures
+returns c = c.from_bits.ensures ∙ ap f64_of c.u64_at.ensures

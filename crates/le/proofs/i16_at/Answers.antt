@@ -6,4 +6,4 @@ use Rattle.le.proofs.i16_at.Goals as goal
 
 pub returns : goal.returns
 returns c =
-    kept w16 _ c.signed16.type_inv ∙ c.signed16.ensures ∙ ap (to_z w16) c.u16_at.ensures
+    kept w16 _ c.cast_signed.type_inv ∙ c.cast_signed.ensures ∙ ap (to_z w16) c.u16_at.ensures

@@ -6,4 +6,4 @@ use Rattle.le.proofs.i32_at.Goals as goal
 
 pub returns : goal.returns
 returns c =
-    kept w32 _ c.signed32.type_inv ∙ c.signed32.ensures ∙ ap (to_z w32) c.u32_at.ensures
+    kept w32 _ c.cast_signed.type_inv ∙ c.cast_signed.ensures ∙ ap (to_z w32) c.u32_at.ensures

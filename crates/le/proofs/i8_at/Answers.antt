@@ -6,4 +6,4 @@ use Rattle.le.proofs.i8_at.Goals as goal
 
 pub returns : goal.returns
 returns c =
-    kept w8 _ c.signed8.type_inv ∙ c.signed8.ensures ∙ ap (to_z w8) c.u8_at.ensures
+    kept w8 _ c.cast_signed.type_inv ∙ c.cast_signed.ensures ∙ ap (to_z w8) c.u8_at.ensures

@@ -1,33 +1,37 @@
+use Rattle.std.proofs.lemmas.Result.{err_from_is_err_and}
 use mathlib.Core.Path.{ap, sym, subst, refl, ◌∙◌}
 use borrow.Author.Rules.{rules}
-use Rattle.header.specs.declared.HeaderRead.{HeaderRead}
-use Rattle.header.specs.Judged.{read_of}
+use Rattle.header.specs.declared.Header.{Header}
+use Rattle.header.specs.Judged.{header_in}
 use Rattle.file.specs.Theorems.{accepted-holds}
+use Rattle.file.specs.Opened.{opened-accepted, opened-refused}
 use Rattle.migrate.specs.Migrate.{header_verdict}
 use Rattle.migrate.specs.Steps.{Ready}
 use Rattle.migrate.specs.Told.{by_accepted, by_check_lem}
 use Rattle.migrate.proofs.ask.Goals as goal
-use Rattle.migrate.proofs.ask.Goals.{In-Accepted}
 
 -- the header of an accepted file
-ready : (c : In-Accepted) → let s = c in Ready (read_of s.args.file.now).header s.args.file.now
-ready c =
+pub ask_accepted-requires : goal.ask_accepted-requires
+ask_accepted-requires c =
     let a = c.args in
-    record {
+    let o = opened-accepted a.allowance a.file.now (sym c.open.ensures ∙ c.in_ok-header.was) in
+    let ready : Ready (header_in a.file.now) a.file.now = record {
       allowance = a.allowance;
-      holds = accepted-holds a.allowance a.file.now (sym c.check.ensures ∙ c.in-Accepted.is);
+      holds = accepted-holds a.allowance a.file.now o.0;
       bytes = search rules;
       read = refl;
-    }
+    } in
+    subst (λ (h : Header). Ready h a.file.now) (sym o.1) ready
 
-pub ask_accepted-requires : goal.ask_accepted-requires
-ask_accepted-requires c = let a = c.args in subst (λ (r : HeaderRead). Ready r.header a.file.now) (sym c.read_from-read.ensures) (ready (goal.at.ask_accepted-requires c).In-Accepted)
-
-pub returns-in-Accepted : goal.returns-in-Accepted
-returns-in-Accepted c =
+pub returns : goal.returns
+returns c =
     let a = c.args in
-    c.ask_accepted.ensures ∙ ap (λ (r : HeaderRead). header_verdict a.up r.header a.file.now) c.read_from-read.ensures
-    ∙ sym (by_accepted a.up a.allowance a.file.now (sym c.check.ensures ∙ c.in-Accepted.is))
+    let o = opened-accepted a.allowance a.file.now (sym c.open.ensures ∙ c.in_ok-header.was) in
+    c.ask_accepted.ensures ∙ ap (λ (h : Header). header_verdict a.up h a.file.now) o.1
+    ∙ sym (by_accepted a.up a.allowance a.file.now o.0)
 
-pub returns-in-Refused : goal.returns-in-Refused
-returns-in-Refused c = let a = c.args in sym (by_check_lem a.up a.allowance a.file.now (sym c.check.ensures ∙ c.in-Refused.is))
+pub returns-in_err-header : goal.returns-in_err-header
+returns-in_err-header c =
+    let a = c.args in
+    let p = err_from_is_err_and c.from_residual.result c.from_residual.ensures.1 in
+    rw (p.1, p.2) (sym (by_check_lem a.up a.allowance a.file.now (opened-refused a.allowance a.file.now (sym c.open.ensures ∙ c.in_err-header.was))))

@@ -4,4 +4,4 @@ use Rattle.migrate.proofs.write_front.Goals as goal
 pub returns : goal.returns
 returns c =
     let a = c.args in
-    front-written a.new a.o a.file.now a.dst.now c.requires _ _ _ _ (rw c.padding.ensures at c.write_to.ensures) c.put.ensures
+    front-written a.new a.o a.file.now a.dst.now c.requires _ _ _ (rw c.padding.ensures at c.write_to.ensures) c.copy_from_slice.ensures.after

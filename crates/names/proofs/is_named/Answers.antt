@@ -1,32 +1,27 @@
-use mathlib.Core.Path.{sym, ◌∙◌}
-use native.Mathlib.Omega.{arith}
-use borrow.Author.Count.{below_more}
-use Rattle.le.specs.Laws.{num-one}
-use Rattle.names.specs.Laws.{named_by_bytes, other_byte, too_long}
+use Prim.Native.Nat.{ℕ}
+use mathlib.Core.Path.{◌≡◌, sym, ap, ◌∙◌}
+use mathlib.Core.List.{List, ◌++◌}
+use borrow.Author.Rules.{rules}
+use borrow.Author.Tests.{tests}
+use lib.Dec.{eqb}
+use Rattle.std.proofs.lemmas.Bool.Decides.{Decides-eqb}
+use Rattle.std.proofs.lemmas.Option.{MatchOption-at_some, MatchOption-at_none}
+use Rattle.std.proofs.lemmas.Slice.Eq.{strip_prefix_is}
+use Rattle.std.proofs.lemmas.Iterator.{YieldsList-from_slice}
+use Rattle.std.proofs.lemmas.Iterator.Search.{all_from_yields_List}
+use Rattle.names.specs.Names.{is_named}
+use Rattle.names.specs.Laws.{prefixed, not_prefixed}
 use Rattle.names.proofs.is_named.Goals as goal
 
-pub returns-then-field-name : goal.returns-then-field-name
-returns-then-field-name c = let a = c.args in sym (too_long a.field.now a.name.now c.if-field-name.true)
-
-pub returns-then-field-i : goal.returns-then-field-i
-returns-then-field-i c =
-    let n = c in
-    let l = n.loop-i in
-    let a = n.args in
-    sym (other_byte a.field.now a.name.now l.i (λ e. c.if-field-i.true (e ∙ sym (num-one a.name.now l.i) ∙ sym n.u8_at.ensures)))
-
-pub loop-i-preserved : goal.loop-i-preserved
-loop-i-preserved c =
-    let n = c in
-    let l = n.loop-i in
-    let a = n.args in
-    (omega arith, omega arith, below_more _ _ l.invariant.2 (c.if-field-i.false ∙ n.u8_at.ensures ∙ num-one a.name.now l.i))
+pub returns-in_default : goal.returns-in_default
+returns-in_default c =
+    let a = c.args in
+    sym (not_prefixed a.field.now a.name.now (MatchOption-at_none _ _ c.in_default.is (strip_prefix_is Decides-eqb a.field.now a.name.now c.strip_prefix.result c.strip_prefix.ensures.cases)))
 
 pub returns : goal.returns
 returns c =
     let a = c.args in
-    let l = c.loop-i in
-    sym (named_by_bytes a.field.now a.name.now l.invariant.1 (λ k h. l.invariant.2 k (omega arith)))
-
-pub loop-i-init : goal.loop-i-init
-loop-i-init c = (omega arith, omega arith, λ k h. absurd (omega arith))
+    let rest = c.in-Some.rest.now in
+    let split : a.field.now ≡ a.name.now ++ rest = MatchOption-at_some _ _ c.in-Some.rest c.in-Some.is (strip_prefix_is Decides-eqb a.field.now a.name.now c.strip_prefix.result c.strip_prefix.ensures.cases) in
+    all_from_yields_List (λ b. eqb b 0) _ _ _ c.all.ensures.ran (YieldsList-from_slice rest cc) (λ x b q k. search (rules, tests))
+    ∙ sym (prefixed a.name.now rest) ∙ ap (λ (l : List ℕ). is_named l a.name.now) (sym split)

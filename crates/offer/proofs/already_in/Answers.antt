@@ -19,10 +19,10 @@ returns-then-count-believed-2 c = let a = c.args in rw (ne_eqb a.count (a.believ
 
 -- where the count is higher by n, their bytes end there
 ends : (c : Else-count-believed-2) → c.args.bytes ≤ c.args.end
-ends c = let s = c in s.requires.last (omega arith)
+ends c = c.requires.last (omega arith)
 
 pub slice_bounds-same-end-2 : goal.slice_bounds-same-end-2
-slice_bounds-same-end-2 c = let s = c in sym (length-take-le s.args.bytes s.args.records.now s.requires.there)
+slice_bounds-same-end-2 c = sym (length-take-le c.args.bytes c.args.records.now c.requires.there)
 
 pub returns : goal.returns
 unfolding stand_last

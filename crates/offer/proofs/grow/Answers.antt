@@ -1,3 +1,4 @@
+use Rattle.std.specs.Prelude.{Ok}
 use Prim.Native.Nat.{◌+◌}
 use mathlib.Core.Path.{◌≡◌, ap, sym, ◌∙◌}
 use mathlib.Core.Bool.{true}
@@ -44,7 +45,7 @@ pub returns : goal.returns
 unfolding growing
 returns c =
     let a = c.args in
-    rw (fit (goal.at.returns c).Else-not-all_fit, le-leb (a.at + a.bytes) (length a.file.now) (omega arith)) (ap Add c.sweep_of.ensures)
+    rw (fit (goal.at.returns c).Else-not-all_fit, le-leb (a.at + a.bytes) (length a.file.now) (omega arith)) (ap (λ (w : Sweep). Ok (Add w)) c.sweep_of.ensures)
 
 pub sweep_of-requires : goal.sweep_of-requires
 sweep_of-requires c = few (goal.at.sweep_of-requires c).Else-not-all_fit

@@ -1,10 +1,10 @@
+use Rattle.std.specs.Prelude.{Ok}
 use Prim.Native.Nat.{ℕ, ◌+◌, ◌*◌, ◌≤◌, ◌<◌}
 use mathlib.Core.Path.{◌≡◌, ap, sym, subst, ◌∙◌}
 use native.Mathlib.Nat.{add-mul, mul-le-mul_left}
 use native.Mathlib.Omega.{arith}
 use borrow.Author.Tests.{eq-eqb, ne_eqb}
 use lib.ListN.{length}
-use Rattle.format.specs.declared.FormatLen.TheVariants as len
 use Rattle.format.specs.Fields.{len_of}
 use Rattle.format.specs.Length.{len_is, len-le}
 use Rattle.format.specs.Laws.{some_bytes}
@@ -38,8 +38,8 @@ module _ (x : After-of-o) where
   there : begun.args.n * each ≤ length begun.args.records.now
   there = subst (λ (u : Outline). begun.args.n * u.point_data_record_length ≤ length begun.args.records.now) (sym is) begun.requires.there
 
-  long : len_of (point_format o) ≡ len.Is each
-  long = subst (λ (u : Outline). len_of (point_format u) ≡ len.Is u.point_data_record_length) (sym is) begun.requires.ready.long
+  long : len_of (point_format o) ≡ Ok each
+  long = subst (λ (u : Outline). len_of (point_format u) ≡ Ok u.point_data_record_length) (sym is) begun.requires.ready.long
 
   some : 0 < each
   some = some_bytes (point_format o) each long
@@ -67,7 +67,7 @@ pub overflow_mul-bytes : goal.overflow_mul-bytes
 overflow_mul-bytes c = omega (arith, there (goal.at.overflow_mul-bytes c).After-of-o)
 
 pub overflow_add-count : goal.overflow_add-count
-overflow_add-count c = let x = c in omega (arith, (few (goal.at.overflow_add-count x).After-of-o).0, (few (goal.at.overflow_add-count x).After-of-o).1)
+overflow_add-count c = omega (arith, (few (goal.at.overflow_add-count c).After-of-o).0, (few (goal.at.overflow_add-count c).After-of-o).1)
 
 pub grow-requires : goal.grow-requires
 grow-requires c =
@@ -96,18 +96,17 @@ other c e = c.if-count-believed.false (ap (λ (u : Outline). u.number_of_point_r
 
 stand : (y : After-already_in) → let a = (begun (goal.at.After-already_in y).After-of-o).args in is_in a.h a.records.now a.n a.believed a.file.now ≡ y.already_in.result
 stand y =
-    let x = y in
-    let a = (begun (goal.at.After-already_in x).After-of-o).args in
+    let a = (begun (goal.at.After-already_in y).After-of-o).args in
     in_is a.h a.records.now a.n a.believed a.file.now
-    ∙ sym (y.already_in.ensures ∙ λ i. stand_last (points_end (is (goal.at.After-already_in x).After-of-o i)) (a.n * (is (goal.at.After-already_in x).After-of-o i).point_data_record_length) a.records.now a.n (is (goal.at.After-already_in x).After-of-o i).number_of_point_records a.believed a.file.now)
+    ∙ sym (y.already_in.ensures ∙ λ i. stand_last (points_end (is (goal.at.After-already_in y).After-of-o i)) (a.n * (is (goal.at.After-already_in y).After-of-o i).point_data_record_length) a.records.now a.n (is (goal.at.After-already_in y).After-of-o i).number_of_point_records a.believed a.file.now)
 
 pub returns-then-already_in : goal.returns-then-already_in
 unfolding counted
-returns-then-already_in c = let y = c in rw (ne_eqb _ _ (other (goal.at.returns-then-already_in y).Else-count-believed), stand (goal.at.returns-then-already_in y).After-already_in, c.if-already_in.true)
+returns-then-already_in c = rw (ne_eqb _ _ (other (goal.at.returns-then-already_in c).Else-count-believed), stand (goal.at.returns-then-already_in c).After-already_in, c.if-already_in.true)
 
 pub returns : goal.returns
 unfolding counted
-returns c = let y = c in rw (ne_eqb _ _ (other (goal.at.returns y).Else-count-believed), stand (goal.at.returns y).After-already_in, c.if-already_in.false) c.refused.ensures
+returns c = rw (ne_eqb _ _ (other (goal.at.returns c).Else-count-believed), stand (goal.at.returns c).After-already_in, c.if-already_in.false) c.refused.ensures
 
 pub total-requires : goal.total-requires
 total-requires c = small (goal.at.total-requires c).After-of-o

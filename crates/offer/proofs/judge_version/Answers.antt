@@ -1,3 +1,6 @@
+use Rattle.std.proofs.lemmas.Result.{err_from_is_err_and}
+use Rattle.std.specs.Prelude.{Result, Ok, Err}
+use Rattle.refusal.specs.declared.Refused.{Refused}
 use Prim.Native.Nat.{ℕ, ◌*◌, ◌≤◌}
 use mathlib.Core.Path.{◌≡◌, ap, sym, ◌∙◌}
 use mathlib.Core.Bool.{Bool, true, false, cond}
@@ -11,7 +14,6 @@ use Rattle.format.specs.Length.{len_is}
 use Rattle.outline.specs.Outline.{outline_of}
 use Rattle.file.specs.Points.{point_format}
 use Rattle.tally.specs.declared.ByReturn.{ByReturn}
-use Rattle.tally.specs.declared.Tally.TheVariants as tally
 use Rattle.tally.specs.Tally.{by_return, tally_of}
 use Rattle.tally.specs.Laws.{tally_told, tally_is}
 use Rattle.offer.specs.declared.Offer.{Offer}
@@ -38,7 +40,7 @@ module _ (x : After-count) where
       sym (x.count.ensures ∙ ap (λ (g : Format). tally_of g x.args.n x.args.records.now) format)
 
   -- and are there
-  module _ {new : ByReturn} (is : x.count.result ≡ tally.Is new) where
+  module _ {new : ByReturn} (is : x.count.result ≡ Ok new) where
     there : x.args.n * record_length x.args.h ≤ length x.args.records.now
     there =
         let a = x.args in
@@ -50,23 +52,24 @@ module _ (x : After-count) where
 pub judge_count-requires : goal.judge_count-requires
 judge_count-requires c =
     let x = (goal.at.judge_count-requires c).After-count in
-    record { ready = c.requires; there = there x c.in-Is.is; counts = counts x c.in-Is.is }
+    record { ready = c.requires; there = there x c.in_ok-new.was; counts = counts x c.in_ok-new.was }
 
-pub returns-in-Is : goal.returns-in-Is
+pub returns : goal.returns
 unfolding offered
-returns-in-Is c =
-    let x = (goal.at.returns-in-Is c).After-count in
-    rw (eq-eqb _ 2 c.if-version-ne2.false, ne_eqb _ 0 c.if-n-eq0.false, le-ltb _ _ (there x c.in-Is.is)) c.judge_count.ensures
+returns c =
+    let x = (goal.at.returns c).After-count in
+    rw (eq-eqb _ 2 c.if-version-ne2.false, ne_eqb _ 0 c.if-n-eq0.false, le-ltb _ _ (there x c.in_ok-new.was)) c.judge_count.ensures
 
 -- a count that is refused is refused with 1
-short : (b : Bool) (s r : Refusal) (x : ByReturn) (otherwise : Offer) → cond b (tally.Refused s) (tally.Is x) ≡ tally.Refused r → no r ≡ cond b (no s) otherwise
+short : (b : Bool) (s r : Refusal) (x : ByReturn) (otherwise : Result Offer Refused) → cond b (Err s) (Ok x) ≡ Err r → no r ≡ cond b (no s) otherwise
 short true s r x otherwise e = cc
 short false s r x otherwise e = let z : ◌≡◌ {A = ℕ} 0 1 = cc in absurd (omega arith)
 
-pub returns-in-Refused : goal.returns-in-Refused
+pub returns-in_err-new : goal.returns-in_err-new
 unfolding offered
-returns-in-Refused c =
-    let x = (goal.at.returns-in-Refused c).After-count in
+returns-in_err-new c =
+    let x = (goal.at.returns-in_err-new c).After-count in
     let a = c.args in
-    rw (eq-eqb _ 2 c.if-version-ne2.false, ne_eqb _ 0 c.if-n-eq0.false)
-    (c.refused-in-Refused.ensures ∙ short (ltb (length a.records.now) (a.n * record_length a.h)) _ _ _ _ (sym (tally_told (f x) a.n a.records.now (record_length a.h) c.requires.long) ∙ told x ∙ c.in-Refused.is))
+    let p = err_from_is_err_and c.from_residual.result c.from_residual.ensures.1 in
+    rw (p.1, p.2, eq-eqb _ 2 c.if-version-ne2.false, ne_eqb _ 0 c.if-n-eq0.false)
+    (short (ltb (length a.records.now) (a.n * record_length a.h)) _ _ _ _ (sym (tally_told (f x) a.n a.records.now (record_length a.h) c.requires.long) ∙ told x ∙ c.in_err-new.was))

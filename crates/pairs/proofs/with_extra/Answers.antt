@@ -18,6 +18,6 @@ returns-in_default c =
 pub returns : goal.returns
 unfolding format_with
 returns c =
-    let is = sym (code-known c.args.code c.requires) ∙ sym c.new.ensures ∙ c.in-Is.is in
-    let is_coded : c.in-Is.format ≡ coded c.args.code false = cc in
+    let is = sym (code-known c.args.code c.requires) ∙ sym c.new.ensures ∙ c.in-Ok.is in
+    let is_coded : c.in-Ok.format ≡ coded c.args.code false = cc in
     ap (with_extra c.args.extra) is_coded

@@ -5,19 +5,16 @@ use Rattle.point.proofs.extra_bytes.Goals as goal
 
 pub extra_sized-requires : goal.extra_sized-requires
 extra_sized-requires c =
-    let p = c in
-    len_is p.args.format _ (sym p.len.ensures ∙ p.in-Is.is)
+    len_is c.args.format _ (sym c.len.ensures ∙ c.in-Ok.is)
 
-pub returns-in-Is : goal.returns-in-Is
+pub returns-in-Ok : goal.returns-in-Ok
 unfolding extra_of
-returns-in-Is c =
-    let p = c in
-    let a = p.args in
-    c.extra_sized.ensures ∙ ap (extra_after a.format a.s.now) (sym p.in-Is.is ∙ p.len.ensures)
+returns-in-Ok c =
+    let a = c.args in
+    c.extra_sized.ensures ∙ ap (extra_after a.format a.s.now) (sym c.in-Ok.is ∙ c.len.ensures)
 
-pub returns-in-Refused : goal.returns-in-Refused
+pub returns-in-Err : goal.returns-in-Err
 unfolding extra_of
-returns-in-Refused c =
-    let p = c in
-    let a = p.args in
-    ap (extra_after a.format a.s.now) (sym c.in-Refused.is ∙ p.len.ensures)
+returns-in-Err c =
+    let a = c.args in
+    ap (extra_after a.format a.s.now) (sym c.in-Err.is ∙ c.len.ensures)

@@ -24,7 +24,6 @@ slice_bounds-result-start c = omega (arith, last c, record_end c.args.format)
 
 pub returns : goal.returns
 returns c =
-    let p = c in
-    let a = p.args in
+    let a = c.args in
     let n : a.n - place_of a.format ExtraBytes ≡ a.format.extra_bytes = omega (arith, record_end a.format) in
-    rw (last (goal.at.returns p).After-places_for-at, le-ltb _ _ p.if-s-n.false, n)
+    rw (last (goal.at.returns c).After-places_for-at, le-ltb _ _ c.if-s-n.false, n)

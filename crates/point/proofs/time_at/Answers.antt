@@ -9,9 +9,8 @@ part_at-part-requires c = rw c.if-has.true at c.requires
 pub returns-then-has : goal.returns-then-has
 unfolding time_at
 returns-then-has c =
-    let p = c in
-    let a = p.args in
-    rw (c.f64_at.ensures, p.part_at-part.ensures, num-first 8 8 a.at a.s.now (omega arith), p.if-has.true)
+    let a = c.args in
+    rw (c.f64_at.ensures, c.part_at-part.ensures, num-first 8 8 a.at a.s.now (omega arith), c.if-has.true)
 
 pub returns : goal.returns
 unfolding time_at

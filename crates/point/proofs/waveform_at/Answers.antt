@@ -8,9 +8,8 @@ part_at-part-requires c = rw c.if-has.true at c.requires
 pub returns-then-has : goal.returns-then-has
 unfolding maybe_waveform_at
 returns-then-has c =
-    let p = c in
-    let a = p.args in
-    rw (c.read_from.ensures, p.part_at-part.ensures, waveform_part a.at a.s.now, p.if-has.true)
+    let a = c.args in
+    rw (c.read_from.ensures, c.part_at-part.ensures, waveform_part a.at a.s.now, c.if-has.true)
 
 pub returns : goal.returns
 unfolding maybe_waveform_at

@@ -1,10 +1,10 @@
+use Rattle.std.specs.Prelude.{Ok}
 use mathlib.Core.Path.{◌≡◌, ap, sym, ◌∙◌}
 use mathlib.Core.Bool.{Bool, cond}
 use native.Mathlib.Omega.{arith}
 use borrow.Author.Tests.{eq-eqb, ne_eqb, lt-ltb}
 use lib.ListN.{length}
 use lib.Seq.{sets}
-use Rattle.flags.specs.declared.TwoBytes.TheVariants.{Bytes}
 use Rattle.flags.specs.Bytes.{two_bytes_of}
 use Rattle.point_bytes.specs.Bytes.{core_of, legacy_core_of}
 use Rattle.point_write.specs.Write.{sized_of}
@@ -44,27 +44,27 @@ returns-then-format c =
 
 -- legacy: the core with the two bytes that the flags have
 module _ (x : After-legacy_core-core) where
-  told : two_bytes_of x.args.point.flags ≡ Bytes x.in-Bytes.a x.in-Bytes.b
-  told = sym x.to_two_bytes.ensures ∙ x.in-Bytes.is
+  told : two_bytes_of x.args.point.flags ≡ Ok (x.in-Ok.a, x.in-Ok.b)
+  told = sym x.to_two_bytes.ensures ∙ x.in-Ok.is
 
   taken-2 : Taken x.args.format x.args.point x.args.extra.now
-  taken-2 = legacy_taken x.args.format x.args.point x.args.extra.now x.in-Bytes.a x.in-Bytes.b told x.if-extra-format.false
+  taken-2 = legacy_taken x.args.format x.args.point x.args.extra.now x.in-Ok.a x.in-Ok.b told x.if-extra-format.false
 
-pub put_at-requires-in-Bytes : goal.put_at-requires-in-Bytes
-put_at-requires-in-Bytes c =
+pub put_at-requires-in-Ok : goal.put_at-requires-in-Ok
+put_at-requires-in-Ok c =
     let a = c.args in
-    let x = (goal.at.put_at-requires-in-Bytes c).After-legacy_core-core in
-    omega (arith, ap length c.legacy_core-core.ensures, core-fits a.format a.point a.extra.now (taken-2 x) (legacy_core_of a.point c.in-Bytes.a c.in-Bytes.b) (legacy_is a.format a.point a.extra.now c.in-Bytes.a c.in-Bytes.b c.if-format.false (told x)), c.requires, c.if-dst-n.false)
+    let x = (goal.at.put_at-requires-in-Ok c).After-legacy_core-core in
+    omega (arith, ap length c.legacy_core-core.ensures, core-fits a.format a.point a.extra.now (taken-2 x) (legacy_core_of a.point c.in-Ok.a c.in-Ok.b) (legacy_is a.format a.point a.extra.now c.in-Ok.a c.in-Ok.b c.if-format.false (told x)), c.requires, c.if-dst-n.false)
 
-pub returns-in-Bytes : goal.returns-in-Bytes
-returns-in-Bytes c =
+pub returns-in-Ok : goal.returns-in-Ok
+returns-in-Ok c =
     let a = c.args in
-    let x = (goal.at.returns-in-Bytes c).After-legacy_core-core in
-    written a.format a.point a.extra.now (taken-2 x) (legacy_core_of a.point c.in-Bytes.a c.in-Bytes.b) (legacy_is a.format a.point a.extra.now c.in-Bytes.a c.in-Bytes.b c.if-format.false (told x))
-    a.n a.dst.now c.requires c.if-dst-n.false (legacy_core-length a.format a.point a.extra.now c.in-Bytes.a c.in-Bytes.b ∙ sym (ap (λ (b : Bool). cond b 22 20) c.if-format.false))
-    (c.put_at-in-Bytes.ensures ∙ ap (sets a.dst.now 0) c.legacy_core-core.ensures) c.write_rest-in-Bytes.ensures
+    let x = (goal.at.returns-in-Ok c).After-legacy_core-core in
+    written a.format a.point a.extra.now (taken-2 x) (legacy_core_of a.point c.in-Ok.a c.in-Ok.b) (legacy_is a.format a.point a.extra.now c.in-Ok.a c.in-Ok.b c.if-format.false (told x))
+    a.n a.dst.now c.requires c.if-dst-n.false (legacy_core-length a.format a.point a.extra.now c.in-Ok.a c.in-Ok.b ∙ sym (ap (λ (b : Bool). cond b 22 20) c.if-format.false))
+    (c.put_at-in-Ok.ensures ∙ ap (sets a.dst.now 0) c.legacy_core-core.ensures) c.write_rest-in-Ok.ensures
 
-pub returns-in-Refused : goal.returns-in-Refused
-returns-in-Refused c =
+pub returns-in-Err : goal.returns-in-Err
+returns-in-Err c =
     let a = c.args in
-    sym (flags_refused a.format a.point a.extra.now a.n a.dst.now _ c.if-extra-format.false c.if-dst-n.false c.if-format.false (sym c.to_two_bytes.ensures ∙ c.in-Refused.is))
+    sym (flags_refused a.format a.point a.extra.now a.n a.dst.now _ c.if-extra-format.false c.if-dst-n.false c.if-format.false (sym c.to_two_bytes.ensures ∙ c.in-Err.is))

@@ -46,14 +46,12 @@ overflow_add-record-then-o-ge6 c = omega (arith, begins (goal.at.overflow_add-re
 pub returns-then-o-ge6 : goal.returns-then-o-ge6
 unfolding asked_in
 returns-then-o-ge6 c =
-    let x = c in
-    rw (lt-ltb 0 _ (some (goal.at.returns-then-o-ge6 x).Else-count-point), le-leb _ _ (all (goal.at.returns-then-o-ge6 x).Else-count-point), le-leb 6 _ c.if-o-ge6.true) c.new_class.ensures
+    rw (lt-ltb 0 _ (some (goal.at.returns-then-o-ge6 c).Else-count-point), le-leb _ _ (all (goal.at.returns-then-o-ge6 c).Else-count-point), le-leb 6 _ c.if-o-ge6.true) c.new_class.ensures
 
 pub returns-then-class-gt31 : goal.returns-then-class-gt31
 unfolding asked_in
 returns-then-class-gt31 c =
-    let x = c in
-    rw (lt-ltb 0 _ (some (goal.at.returns-then-class-gt31 x).Else-count-point), le-leb _ _ (all (goal.at.returns-then-class-gt31 x).Else-count-point), lt-leb 6 _ c.if-o-ge6.false, lt-ltb 31 _ c.if-class-gt31.true) c.refused-then-class-gt31.ensures
+    rw (lt-ltb 0 _ (some (goal.at.returns-then-class-gt31 c).Else-count-point), le-leb _ _ (all (goal.at.returns-then-class-gt31 c).Else-count-point), lt-leb 6 _ c.if-o-ge6.false, lt-ltb 31 _ c.if-class-gt31.true) c.refused-then-class-gt31.ensures
 
 pub overflow_add-record-2 : goal.overflow_add-record-2
 overflow_add-record-2 c = omega (arith, begins (goal.at.overflow_add-record-2 c).Else-count-point)
@@ -61,5 +59,4 @@ overflow_add-record-2 c = omega (arith, begins (goal.at.overflow_add-record-2 c)
 pub returns : goal.returns
 unfolding asked_in
 returns c =
-    let x = c in
-    rw (lt-ltb 0 _ (some (goal.at.returns x).Else-count-point), le-leb _ _ (all (goal.at.returns x).Else-count-point), lt-leb 6 _ c.if-o-ge6.false, le-ltb 31 _ c.if-class-gt31.false) c.old_class.ensures
+    rw (lt-ltb 0 _ (some (goal.at.returns c).Else-count-point), le-leb _ _ (all (goal.at.returns c).Else-count-point), lt-leb 6 _ c.if-o-ge6.false, le-ltb 31 _ c.if-class-gt31.false) c.old_class.ensures

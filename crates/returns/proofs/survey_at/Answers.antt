@@ -4,6 +4,7 @@ use native.Mathlib.Omega.{arith}
 use lib.ListN.{length, take, drop, length-drop}
 use lib.Seq.{take_all}
 use Rattle.format.specs.Fields.{record_bytes}
+use Rattle.format.specs.Laws.{record_sum}
 use Rattle.layout.specs.Placed.{laid}
 use Rattle.returns.specs.declared.Counted.{Counted}
 use Rattle.returns.specs.Returns.{counted_of, survey_at}
@@ -18,7 +19,7 @@ module _ (x : After-for_format-each) where
   long = (laid x.args.format x.for_format-each.ensures).long
 
 pub count_all-returns-requires : goal.count_all-returns-requires
-count_all-returns-requires c = rw (rest (goal.at.count_all-returns-requires c).After-for_format-each, length-drop, long (goal.at.count_all-returns-requires c).After-for_format-each) (omega (arith, c.requires))
+count_all-returns-requires c = rw (rest (goal.at.count_all-returns-requires c).After-for_format-each, length-drop, long (goal.at.count_all-returns-requires c).After-for_format-each) (omega (arith, record_sum c.args.format), omega (arith, c.requires))
 
 pub returns : goal.returns
 unfolding survey_at

@@ -1,8 +1,9 @@
+use Rattle.std.specs.Prelude.{Result}
+use Rattle.refusal.specs.declared.Refused.{Refused}
 use Prim.Native.Nat.{◌+◌, ◌*◌, ◌≤◌}
 use mathlib.Core.Path.{◌≡◌, sym, ap, subst, ◌∙◌}
 use lib.ListN.{length}
 use Rattle.format.specs.Fields.{record_bytes}
-use Rattle.walker.specs.declared.Start.{Start}
 use Rattle.walker.specs.declared.Place.{Place}
 use Rattle.returns.specs.Returns.{survey_by, survey_of}
 use Rattle.returns.specs.Laws.{begun_end}
@@ -11,7 +12,7 @@ use Rattle.returns.proofs.survey_of.Goals.{After-begin-begun}
 
 -- by what the walker starts from
 module _ (m : After-begin-begun) where
-  by_start_lem : {x : Start} → m.begin-begun.result.start ≡ x → survey_by m.begin-begun.result m.args.file.now x ≡ survey_of m.args.allowance m.args.file.now
+  by_start_lem : {x : Result Unit Refused} → m.begin-begun.result.start ≡ x → survey_by m.begin-begun.result m.args.file.now x ≡ survey_of m.args.allowance m.args.file.now
   unfolding survey_of
   by_start_lem e =
       ap (survey_by m.begin-begun.result m.args.file.now) (sym e)
@@ -20,11 +21,11 @@ module _ (m : After-begin-begun) where
 pub survey_at-requires : goal.survey_at-requires
 survey_at-requires c =
     let g = c.args in
-    let accepted = ap (λ (p : Place). p.start) (sym c.begin-begun.ensures) ∙ c.in-Accepted.is in
+    let accepted = ap (λ (p : Place). p.start) (sym c.begin-begun.ensures) ∙ c.in-Ok.is in
     subst (λ (p : Place). p.at + p.count * record_bytes p.format ≤ length g.file.now) (sym c.begin-begun.ensures) (begun_end g.allowance g.file.now accepted)
 
-pub returns-in-Accepted : goal.returns-in-Accepted
-returns-in-Accepted c = c.survey_at.ensures ∙ by_start_lem (goal.at.returns-in-Accepted c).After-begin-begun c.in-Accepted.is
+pub returns-in-Ok : goal.returns-in-Ok
+returns-in-Ok c = c.survey_at.ensures ∙ by_start_lem (goal.at.returns-in-Ok c).After-begin-begun c.in-Ok.is
 
-pub returns-in-Refused : goal.returns-in-Refused
-returns-in-Refused c = c.survey_at-in-Refused.ensures ∙ by_start_lem (goal.at.returns-in-Refused c).After-begin-begun c.in-Refused.is
+pub returns-in-Err : goal.returns-in-Err
+returns-in-Err c = c.survey_at-in-Err.ensures ∙ by_start_lem (goal.at.returns-in-Err c).After-begin-begun c.in-Err.is

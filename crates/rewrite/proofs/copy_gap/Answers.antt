@@ -1,10 +1,4 @@
-use mathlib.Core.Path.{ap, ◌∙◌}
-use mathlib.Core.List.{List}
-use Prim.Native.Nat.{ℕ}
-use Rattle.lent.specs.declared.Wrote.{Wrote}
-use Rattle.lent.specs.Laws.{front}
 use Rattle.rewrite.proofs.copy_gap.Goals as goal
 
 pub returns : goal.returns
-returns c =
-    ap (λ (p : Wrote × List ℕ). p.1) (c.put.ensures ∙ front c.args.src.now c.args.dst.now c.requires)
+returns c = rw c.copy_from_slice.ensures.after

@@ -14,5 +14,5 @@ returns-in_default c =
 
 pub returns : goal.returns
 returns c =
-    point_laid c.args.src.now c.args.dst.now c.requires.1 c.args.format c.requires.0 (λ k. omega (arith, c.shared_slice_known-1.given k)) (sym c.read_from.ensures ∙ c.in-Is.is)
+    point_laid c.args.src.now c.args.dst.now c.requires.1 c.args.format c.requires.0 (λ k. omega (arith, c.shared_slice_known-1.given k)) (sym c.read_from.ensures ∙ c.in-Ok.is)
     (rw c.extra_bytes.ensures at c.write_to.ensures)

@@ -1,10 +1,10 @@
+use Rattle.std.specs.Prelude.{Err}
 use Prim.Native.Nat.{ℕ, ◌+◌, ◌≤◌, ◌<◌, ◌^◌}
 use mathlib.Core.Path.{◌≡◌, ap, sym, ◌∙◌}
 use native.Mathlib.Omega.{arith}
 use borrow.Author.Rules.{rules}
 use lib.ListN.{length}
 use Rattle.refusal.specs.declared.Refusal.TheVariants.{NoRoom}
-use Rattle.sectors.specs.declared.Stored.TheVariants.{Refused}
 use Rattle.sectors.specs.Sectors.{point_stores, sector_of, stored_of}
 use Rattle.sectors.specs.Header.{length_header}
 use Rattle.sectors.specs.Laws.{touched, short-store, beyond-store, point_store, header_store, no_store}
@@ -18,18 +18,15 @@ returns-then-records-sweep c =
 
 pub returns-then-room-sweep : goal.returns-then-room-sweep
 returns-then-room-sweep c =
-    let e = c in
-    let a = e.args in
-    (λ i. (Refused (NoRoom (c.end_wanted.ensures i)), a.file.now))
-    ∙ sym (beyond-store a.sweep a.records.now a.bounds e.if-records-sweep.false a.k a.file.now (omega (arith, c.if-room-sweep.true)))
+    let a = c.args in
+    (λ i. (Err (NoRoom (c.end_wanted.ensures i)), a.file.now))
+    ∙ sym (beyond-store a.sweep a.records.now a.bounds c.if-records-sweep.false a.k a.file.now (omega (arith, c.if-room-sweep.true)))
 
 pub returns-then-room-sweep-2 : goal.returns-then-room-sweep-2
 returns-then-room-sweep-2 c =
-    let e2 = c in
-    let e = e2 in
-    let a = e.args in
-    (λ i. (Refused (NoRoom (c.end_wanted-then-room-sweep-2.ensures i)), a.file.now))
-    ∙ sym (beyond-store a.sweep a.records.now a.bounds e.if-records-sweep.false a.k a.file.now (omega (arith, e2.if-room-sweep.false, c.if-room-sweep-2.true)))
+    let a = c.args in
+    (λ i. (Err (NoRoom (c.end_wanted-then-room-sweep-2.ensures i)), a.file.now))
+    ∙ sym (beyond-store a.sweep a.records.now a.bounds c.if-records-sweep.false a.k a.file.now (omega (arith, c.if-room-sweep.false, c.if-room-sweep-2.true)))
 
 -- past the refusals the records are there and have their place
 module _ (p : After-point_stores-points) where
@@ -48,49 +45,38 @@ module _ (p : After-point_stores-points) where
   room : begun.args.sweep.at + begun.args.sweep.bytes ≤ length begun.args.file.now
   room = omega (arith, past.if-room-sweep.false, past.if-room-sweep-2.false)
 
-before_last : (c : Then-k-points) → let p = c in (begun (goal.at.Then-k-points p).After-point_stores-points).args.k < points (goal.at.Then-k-points p).After-point_stores-points
+before_last : (c : Then-k-points) → (begun (goal.at.Then-k-points c).After-point_stores-points).args.k < points (goal.at.Then-k-points c).After-point_stores-points
 before_last c = omega (arith, c.if-k-points.true, c.point_stores-points.ensures)
 
 pub overflow_add-sweep : goal.overflow_add-sweep
 unfolding point_stores
 overflow_add-sweep c =
-    let t = c in
-    let w = (begun (goal.at.overflow_add-sweep t).After-point_stores-points).args.sweep in
+    let w = (begun (goal.at.overflow_add-sweep c).After-point_stores-points).args.sweep in
     let fits : (w.at < 2 ^ 64) × (w.bytes < 2 ^ 64) = search rules in
-    omega (arith, before_last (goal.at.overflow_add-sweep t).Then-k-points)
+    omega (arith, before_last (goal.at.overflow_add-sweep c).Then-k-points)
 
 pub store_records-requires : goal.store_records-requires
 store_records-requires c =
-    let t = c in
-    let p = t in
-    let in-it = touched (begun (goal.at.store_records-requires p).After-point_stores-points).args.sweep (begun (goal.at.store_records-requires p).After-point_stores-points).args.k (before_last (goal.at.store_records-requires t).Then-k-points) in
-    (there (goal.at.store_records-requires p).After-point_stores-points, room (goal.at.store_records-requires p).After-point_stores-points, in-it.0, in-it.1)
+    let in-it = touched (begun (goal.at.store_records-requires c).After-point_stores-points).args.sweep (begun (goal.at.store_records-requires c).After-point_stores-points).args.k (before_last (goal.at.store_records-requires c).Then-k-points) in
+    (there (goal.at.store_records-requires c).After-point_stores-points, room (goal.at.store_records-requires c).After-point_stores-points, in-it.0, in-it.1)
 
 pub returns-then-k-points : goal.returns-then-k-points
 returns-then-k-points c =
-    let r = c in
-    let t = r in
-    let p = t in
-    let a = (begun (goal.at.returns-then-k-points p).After-point_stores-points).args in
-    (λ i. (r.store_records.ensures.0 i, r.store_records.ensures.1 i))
-    ∙ sym (point_store a.sweep a.records.now a.bounds (there (goal.at.returns-then-k-points p).After-point_stores-points) a.file.now (room (goal.at.returns-then-k-points p).After-point_stores-points) a.k (before_last (goal.at.returns-then-k-points t).Then-k-points))
+    let a = (begun (goal.at.returns-then-k-points c).After-point_stores-points).args in
+    (λ i. (c.store_records.ensures.0 i, c.store_records.ensures.1 i))
+    ∙ sym (point_store a.sweep a.records.now a.bounds (there (goal.at.returns-then-k-points c).After-point_stores-points) a.file.now (room (goal.at.returns-then-k-points c).After-point_stores-points) a.k (before_last (goal.at.returns-then-k-points c).Then-k-points))
 
 pub returns-then-k-points-2 : goal.returns-then-k-points-2
 returns-then-k-points-2 c =
-    let h = c in
-    let t = h in
-    let p = t in
-    let a = (begun (goal.at.returns-then-k-points-2 p).After-point_stores-points).args in
-    let last : a.k ≡ points (goal.at.returns-then-k-points-2 p).After-point_stores-points = t.if-k-points-2.true ∙ p.point_stores-points.ensures in
-    let same = ap length h.store_header.ensures ∙ length_header a.sweep a.bounds a.file.now in
-    let first : c.sector.result ≡ sector_of 0 (length a.file.now) = c.sector.ensures ∙ ap (sector_of 0) same in
-    (λ i. (first i, h.store_header.ensures i))
-    ∙ sym (ap (λ (k : ℕ). stored_of a.sweep a.records.now a.bounds k a.file.now) last ∙ header_store a.sweep a.records.now a.bounds (there (goal.at.returns-then-k-points-2 p).After-point_stores-points) a.file.now (room (goal.at.returns-then-k-points-2 p).After-point_stores-points))
+    let a = (begun (goal.at.returns-then-k-points-2 c).After-point_stores-points).args in
+    let last : a.k ≡ points (goal.at.returns-then-k-points-2 c).After-point_stores-points = c.if-k-points-2.true ∙ c.point_stores-points.ensures in
+    let same = ap length c.store_header.ensures ∙ length_header a.sweep a.bounds a.file.now in
+    let first : c.sector_from.result ≡ sector_of 0 (length a.file.now) = c.sector_from.ensures ∙ ap (sector_of 0) same in
+    (λ i. (first i, c.store_header.ensures i))
+    ∙ sym (ap (λ (k : ℕ). stored_of a.sweep a.records.now a.bounds k a.file.now) last ∙ header_store a.sweep a.records.now a.bounds (there (goal.at.returns-then-k-points-2 c).After-point_stores-points) a.file.now (room (goal.at.returns-then-k-points-2 c).After-point_stores-points))
 
 pub returns : goal.returns
 returns c =
-    let e = c in
-    let p = e in
-    let a = (begun (goal.at.returns p).After-point_stores-points).args in
-    let over : points (goal.at.returns p).After-point_stores-points < a.k = omega (arith, p.point_stores-points.ensures, e.if-k-points.false, c.if-k-points-2.false) in
-    sym (no_store a.sweep a.records.now a.bounds (there (goal.at.returns p).After-point_stores-points) a.file.now (room (goal.at.returns p).After-point_stores-points) a.k over)
+    let a = (begun (goal.at.returns c).After-point_stores-points).args in
+    let over : points (goal.at.returns c).After-point_stores-points < a.k = omega (arith, c.point_stores-points.ensures, c.if-k-points.false, c.if-k-points-2.false) in
+    sym (no_store a.sweep a.records.now a.bounds (there (goal.at.returns c).After-point_stores-points) a.file.now (room (goal.at.returns c).After-point_stores-points) a.k over)

@@ -1,3 +1,5 @@
+use Rattle.std.specs.Prelude.{Some, Ok}
+use Rattle.sectors.specs.Sector.{sector_at}
 use Prim.Native.Nat.{ℕ, ◌+◌, ◌-◌, ◌*◌, ◌≤◌, ◌<◌, min, max}
 use mathlib.Core.Path.{◌≡◌, ap, ◌∙◌}
 use mathlib.Core.List.{List}
@@ -5,7 +7,6 @@ use native.Mathlib.Nat.{le-max_left}
 use native.Mathlib.Omega.{arith}
 use lib.ListN.{length, take, drop}
 use lib.Seq.{sets, length-sets}
-use Rattle.sectors.specs.declared.Stored.TheVariants.{Sector}
 use Rattle.sectors.specs.Sectors.{with_records}
 use Rattle.sectors.proofs.store_records.Goals as goal
 
@@ -21,13 +22,10 @@ cut s records at end start from some e q h =
 pub returns : goal.returns
 unfolding with_records
 returns c =
-    let b = c in
-    let m = b in
-    let l = m in
-    let a = l.args in
+    let a = c.args in
     let start : ℕ = 512 * a.number in
     let end : ℕ = a.sweep.at + a.sweep.bytes in
-    let same : length b.set_bytes.new.d ≡ length a.file.now = ap length b.set_bytes.ensures ∙ simp length-sets in (
-      c.sector.ensures ∙ ap (λ (n : ℕ). Sector start (min 512 (n - start))) same,
-      b.set_bytes.ensures ∙ cut a.file.now a.records.now a.sweep.at end start l.larger-from.result m.smaller.result l.larger-from.ensures m.smaller.ensures (omega arith),
+    let same : length c.set_bytes.new.d ≡ length a.file.now = ap length c.set_bytes.ensures ∙ simp length-sets in (
+      c.sector_from.ensures ∙ ap (λ (n : ℕ). Ok (Some (sector_at start (min 512 (n - start))))) same,
+      c.set_bytes.ensures ∙ cut a.file.now a.records.now a.sweep.at end start c.larger-from.result c.smaller.result c.larger-from.ensures c.smaller.ensures (omega arith),
     )

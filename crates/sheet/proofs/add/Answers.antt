@@ -1,20 +1,22 @@
+use Rattle.std.specs.Prelude.{Result}
 use mathlib.Core.Path.{◌≡◌, ap, sym, ◌∙◌}
-use Rattle.walker.specs.declared.Start.{Start}
-use Rattle.sheet_count.specs.declared.Counted.{Counted}
+use Rattle.std.proofs.lemmas.Result.{err_from_is_err_and}
+use Rattle.refusal.specs.declared.Refused.{Refused}
+use Rattle.sheet_count.specs.declared.Tally.{Tally}
 use Rattle.sheet.specs.Sheet.{added_by, added_of}
 use Rattle.sheet.proofs.add.Goals as goal
-use Rattle.sheet.proofs.add.Goals.{After-count-counted}
+use Rattle.sheet.proofs.add.Goals.{After-count}
 
--- by what the file check answered
-module _ (m : After-count-counted) where
-  by_start_lem : {x : Start} → m.count-counted.result.start ≡ x → added_by m.args.sheet m.count-counted.result.tally x ≡ added_of m.args.allowance m.args.sheet m.args.file.now
+-- by what was counted
+module _ (m : After-count) where
+  told : {x : Result Tally Refused} → m.count.result ≡ x → added_by m.args.sheet.now x ≡ added_of m.args.allowance m.args.sheet.now m.args.file.now
   unfolding added_of
-  by_start_lem e =
-      ap (added_by m.args.sheet m.count-counted.result.tally) (sym e)
-      ∙ ap (λ (k : Counted). added_by m.args.sheet k.tally k.start) m.count-counted.ensures
+  told e = ap (added_by m.args.sheet.now) (sym e ∙ m.count.ensures)
 
-pub returns-in-Accepted : goal.returns-in-Accepted
-returns-in-Accepted c = c.add_tally.ensures ∙ by_start_lem (goal.at.returns-in-Accepted c).After-count-counted c.in-Accepted.is
+pub returns-in_err-tally : goal.returns-in_err-tally
+returns-in_err-tally c =
+    let p = err_from_is_err_and c.from_residual.result c.from_residual.ensures.1 in
+    rw (p.1, p.2) (told (goal.at.returns-in_err-tally c).After-count c.in_err-tally.was)
 
-pub returns-in-Refused : goal.returns-in-Refused
-returns-in-Refused c = by_start_lem (goal.at.returns-in-Refused c).After-count-counted c.in-Refused.is
+pub returns : goal.returns
+returns c = c.add_tally.ensures ∙ told (goal.at.returns c).After-count c.in_ok-tally.was

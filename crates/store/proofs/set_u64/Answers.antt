@@ -3,4 +3,4 @@ use lib.Seq.{sets}
 use Rattle.store.proofs.set_u64.Goals as goal
 
 pub returns : goal.returns
-returns c = c.set_bytes.ensures ∙ ap (sets _ _) c.u64_bytes.ensures
+returns c = c.set_bytes.ensures ∙ ap (sets _ _) c.to_le_bytes.ensures

@@ -9,7 +9,6 @@ use Rattle.strict.proofs.check_angle.Goals as goal
 
 pub returns : goal.returns
 returns c =
-    let t = c in
     c.check_scaled.ensures
-    ∙ ap (λ (n : ℤ). angle_fit_of (Scaled n)) (kept w16 _ t.to_scaled.type_inv ∙ t.to_scaled.ensures)
-    ∙ scaled_alike t.args.scan_angle
+    ∙ ap (λ (n : ℤ). angle_fit_of (Scaled n)) (kept w16 _ c.to_scaled.type_inv ∙ c.to_scaled.ensures)
+    ∙ scaled_alike c.args.scan_angle

@@ -5,9 +5,4 @@ use Rattle.strict.proofs.check_flags.Goals as goal
 pub returns : goal.returns
 unfolding flags_fit_of
 returns c =
-    let o = c in
-    let h = o in
-    let k = h in
-    let n = k in
-    let r = n in
-    rw (c.check_readings.ensures, r.return_number-return_number.ensures, n.number_of_returns-number_of_returns.ensures, k.class-class.ensures, h.scanner_channel-scanner_channel.ensures, o.is_overlap-overlap.ensures)
+    rw (c.check_readings.ensures, c.return_number-return_number.ensures, c.number_of_returns-number_of_returns.ensures, c.class-class.ensures, c.scanner_channel-scanner_channel.ensures, c.is_overlap-overlap.ensures)

@@ -20,4 +20,4 @@ returns-then-scaled_fits c = rw (← (asked (goal.at.returns-then-scaled_fits c)
 pub returns : goal.returns
 unfolding angle_fit_of
 returns c =
-    rw (← (asked (goal.at.returns c).After-scaled_fits), c.if-scaled_fits.false, c.bits16.ensures, seen (goal.at.returns c).Start)
+    rw (← (asked (goal.at.returns c).After-scaled_fits), c.if-scaled_fits.false, c.cast_unsigned.ensures, seen (goal.at.returns c).Start)

@@ -6,6 +6,5 @@ use Rattle.strict.proofs.upgraded.Goals as goal
 
 pub returns : goal.returns
 returns c =
-    let t = c in
-    let p = t.args.point in
-    c.upgraded_to.ensures ∙ ap (upgraded_to p) (kept w16 _ t.to_scaled.type_inv ∙ t.to_scaled.ensures) ∙ to_its_own p
+    let p = c.args.point in
+    c.upgraded_to.ensures ∙ ap (upgraded_to p) (kept w16 _ c.to_scaled.type_inv ∙ c.to_scaled.ensures) ∙ to_its_own p

@@ -8,9 +8,8 @@ use Rattle.strict.proofs.upgraded_to.Goals as goal
 pub returns-in-TwoByte : goal.returns-in-TwoByte
 unfolding upgraded_to
 returns-in-TwoByte c =
-    let s = c in
-    let a = s.args in
-    rw (kept w16 a.scaled s.ranges.scaled.sfits) at c.upgraded_old.ensures
+    let a = c.args in
+    rw (kept w16 a.scaled c.ranges.scaled.sfits) at c.upgraded_old.ensures
     ∙ sym (ap (upgraded_to_by a.point a.scaled) c.in-TwoByte.is)
 
 pub returns-in-ThreeByte : goal.returns-in-ThreeByte

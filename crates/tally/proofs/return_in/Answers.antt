@@ -13,4 +13,4 @@ pub returns-in_default : goal.returns-in_default
 returns-in_default c = sym (ap return_marked c.in_default.is) ∙ marked (goal.at.returns-in_default c).After-read_from
 
 pub returns : goal.returns
-returns c = let x = c in c.return_number.ensures ∙ sym (ap return_marked x.in-Is.is) ∙ marked (goal.at.returns x).After-read_from
+returns c = c.return_number.ensures ∙ sym (ap return_marked c.in-Ok.is) ∙ marked (goal.at.returns c).After-read_from

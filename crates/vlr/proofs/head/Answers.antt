@@ -12,20 +12,18 @@ use Rattle.vlr.proofs.head.Goals as goal
 pub returns : goal.returns
 unfolding vlr_of
 returns c =
-    let stated = c in
-    let place_of = c in
-    let a = stated.args in
+    let a = c.args in
     let e = a.extended in
     let s = a.s.now in
-    let id : c.bytes16.result ≡ take 16 (drop 2 s) = c.bytes16.ensures ∙ window_is 16 2 s (omega (arith, head-sizes e)) in
-    let text : c.bytes32.result ≡ take 32 (drop (place e Description) s) =
-    c.bytes32.ensures ∙ ap (λ (at : ℕ). window 32 at s) place_of.description_place-at.ensures
+    let id : c.bytes_at.result ≡ take 16 (drop 2 s) = c.bytes_at.ensures ∙ window_is 16 2 s (omega (arith, head-sizes e)) in
+    let text : c.bytes_at-2.result ≡ take 32 (drop (place e Description) s) =
+    c.bytes_at-2.ensures ∙ ap (λ (at : ℕ). window 32 at s) c.description_place-at.ensures
     ∙ window_is 32 (place e Description) s (omega (arith, description_last e)) in
     λ i.
     record {
       reserved = c.u16_at.ensures i;
       user_id = id i;
       record_id = c.u16_at-2.ensures i;
-      record_length_after_header = stated.length_field-record_length_after_header.ensures i;
+      record_length_after_header = c.length_field-record_length_after_header.ensures i;
       description = text i;
     }

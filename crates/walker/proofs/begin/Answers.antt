@@ -1,23 +1,20 @@
-use mathlib.Core.Path.{◌≡◌, sym, ap, ◌∙◌}
-use Rattle.header.specs.declared.HeaderRead.{HeaderRead}
-use Rattle.header.specs.Judged.{read_of}
+use mathlib.Core.Path.{sym, ap, ◌∙◌}
+use Rattle.header.specs.Judged.{header_in}
 use Rattle.outline.specs.Outline.{outline_of}
+use Rattle.file.specs.Opened.{opened-accepted, opened-refused}
 use Rattle.walker.specs.Begin.{first_place, begin_by, begin_of}
 use Rattle.walker.proofs.begin.Goals as goal
-use Rattle.walker.proofs.begin.Goals.{After-of}
 
-outlined : (c : After-of) → c.of.result ≡ outline_of (read_of c.args.file.now).header
-outlined c = c.of.ensures ∙ ap (λ (r : HeaderRead). outline_of r.header) c.read_from-read.ensures
-
-pub returns-in-Accepted : goal.returns-in-Accepted
+pub returns-in-Ok : goal.returns-in-Ok
 unfolding begin_of
-returns-in-Accepted c =
+returns-in-Ok c =
     let s = c.args.file.now in
-    c.first_place.ensures ∙ ap first_place (outlined (goal.at.returns-in-Accepted c).After-of)
-    ∙ ap (begin_by (outline_of (read_of s).header)) (sym c.in-Accepted.is ∙ c.check.ensures)
+    let o = opened-accepted c.args.allowance s (sym c.open.ensures ∙ c.in-Ok.is) in
+    c.first_place.ensures ∙ ap first_place (c.of.ensures ∙ ap outline_of o.1)
+    ∙ ap (begin_by (outline_of (header_in s))) (sym o.0)
 
-pub returns-in-Refused : goal.returns-in-Refused
+pub returns-in-Err : goal.returns-in-Err
 unfolding begin_of
-returns-in-Refused c =
+returns-in-Err c =
     let s = c.args.file.now in
-    c.refused_place.ensures ∙ ap (begin_by (outline_of (read_of s).header)) (sym c.in-Refused.is ∙ c.check.ensures)
+    c.refused_place.ensures ∙ ap (begin_by (outline_of (header_in s))) (sym (opened-refused c.args.allowance s (sym c.open.ensures ∙ c.in-Err.is)))

@@ -13,19 +13,19 @@ pub returns-in_default-len : goal.returns-in_default-len
 unfolding record_of has_next
 returns-in_default-len c =
     let p = c.args.place in
-    rw (c.in-Accepted.is, lt-leb _ _ (len_over p.format _ (sym c.len.ensures ∙ c.in_default-len.is)))
+    rw (c.in-Ok.is, lt-leb _ _ (len_over p.format _ (sym c.len.ensures ∙ c.in_default-len.is)))
 
 pub returns-then-place-eq0 : goal.returns-then-place-eq0
 unfolding record_of has_next
 returns-then-place-eq0 c =
     let p = c.args.place in
     rw
-    (c.in-Accepted.is, le-leb _ _ (len-le p.format _ (sym c.len.ensures ∙ c.in-Is.is)), le-ltb 0 p.left (omega arith))
+    (c.in-Ok.is, le-leb _ _ (len-le p.format _ (sym c.len.ensures ∙ c.in-Ok-len.is)), le-ltb 0 p.left (omega arith))
 
 pub returns : goal.returns
 unfolding whole_at record_of has_next
 returns c =
     let p = c.args.place in
-    let is = sym c.len.ensures ∙ c.in-Is.is in
+    let is = sym c.len.ensures ∙ c.in-Ok-len.is in
     rw
-    (c.whole_at.ensures, c.in-Accepted.is, le-leb _ _ (len-le p.format _ is), lt-ltb 0 p.left (omega arith), len_is p.format _ is)
+    (c.whole_at.ensures, c.in-Ok.is, le-leb _ _ (len-le p.format _ is), lt-ltb 0 p.left (omega arith), len_is p.format _ is)

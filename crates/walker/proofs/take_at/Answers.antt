@@ -1,3 +1,6 @@
+use Rattle.std.specs.Prelude.{Result, Ok}
+use Rattle.point.specs.declared.Point.{Point}
+use Rattle.refusal.specs.declared.Refused.{Refused}
 use Prim.Native.Nat.{ℕ, ◌+◌, ◌-◌}
 use mathlib.Core.Path.{◌≡◌, sym, ap, ◌∙◌}
 use native.Mathlib.Omega.{arith}
@@ -7,13 +10,11 @@ use Rattle.format.specs.Fields.{record_bytes}
 use Rattle.point.specs.declared.Point as point
 use Rattle.point.specs.Read.{read_of}
 use Rattle.walker.specs.declared.Place.{Place}
-use Rattle.walker.specs.declared.Walked.{Walked}
-use Rattle.walker.specs.declared.Walked.TheVariants.{Point}
 use Rattle.walker.specs.declared.Took.{Took}
 use Rattle.walker.specs.Walk.{record_of, after, took_of}
 use Rattle.walker.specs.Laws.{Next, next_says, read_is_next, took_after, by_reader}
 use Rattle.walker.proofs.take_at.Goals as goal
-use Rattle.walker.proofs.take_at.Goals.{After-read_from, In-Is}
+use Rattle.walker.proofs.take_at.Goals.{After-read_from, In-Ok}
 
 -- The reader's answer on the next record decides: `by_reader`. A point is the next record's, which ends in the file.
 module _ (c : After-read_from) where
@@ -33,31 +34,31 @@ module _ (c : After-read_from) where
 pub returns-in_default : goal.returns-in_default
 returns-in_default c =
     let p = c.args.place in
-    ap (λ (w : Walked). record { answer = w; next = p }) c.refusal_at.ensures
+    ap (λ (w : Result Point Refused). record { answer = w; next = p }) c.refusal_at.ensures
     ∙ sym (took (goal.at.returns-in_default c).After-read_from ∙ ap (took_after p) c.in_default.is)
 
 -- a point that is read is the next record's
-next : (c : In-Is) → Next c.args.file.now c.args.place
+next : (c : In-Ok) → Next c.args.file.now c.args.place
 next c =
-    let r = (goal.at.In-Is c).After-read_from in
-    next_says c.args.file.now c.args.place (read_is_next c.args.file.now c.args.place _ (read r ∙ c.in-Is.is))
+    let r = (goal.at.In-Ok c).After-read_from in
+    next_says c.args.file.now c.args.place (read_is_next c.args.file.now c.args.place _ (read r ∙ c.in-Ok.is))
 
-long : (c : In-Is) → length c.record_at-record.result.now ≡ record_bytes c.args.place.format
+long : (c : In-Ok) → length c.record_at-record.result.now ≡ record_bytes c.args.place.format
 long c = ap length c.record_at-record.ensures ∙ (next c).long
 
 pub overflow_add-result : goal.overflow_add-result
 overflow_add-result c =
-    let r = (goal.at.overflow_add-result c).In-Is in
+    let r = (goal.at.overflow_add-result c).In-Ok in
     omega (arith, (next r).room, long r)
 
 pub overflow_sub-result : goal.overflow_sub-result
-overflow_sub-result c = omega (arith, (next (goal.at.overflow_sub-result c).In-Is).one)
+overflow_sub-result c = omega (arith, (next (goal.at.overflow_sub-result c).In-Ok).one)
 
 -- the place n bytes further on
 abbrev further : Place → point.Point → ℕ → Took
 further p x n =
     record {
-      answer = Point x;
+      answer = Ok x;
       next = record { format = p.format; at = p.at + n; left = p.left - 1; count = p.count; start = p.start };
     }
 
@@ -65,4 +66,4 @@ pub returns : goal.returns
 unfolding after
 returns c =
     let p = c.args.place in
-    ap (further p c.in-Is.point) (long (goal.at.returns c).In-Is) ∙ sym (took (goal.at.returns c).After-read_from ∙ ap (took_after p) c.in-Is.is)
+    ap (further p c.in-Ok.point) (long (goal.at.returns c).In-Ok) ∙ sym (took (goal.at.returns c).After-read_from ∙ ap (took_after p) c.in-Ok.is)

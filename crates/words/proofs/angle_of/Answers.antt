@@ -9,22 +9,22 @@ pub overflow_cast-w : goal.overflow_cast-w
 unfolding angle_of
 overflow_cast-w c = search rules
 
-pub signed16-requires : goal.signed16-requires
+pub cast_signed-requires : goal.cast_signed-requires
 unfolding angle_of
-signed16-requires c = search rules
+cast_signed-requires c = search rules
 
 pub returns-then-w-eq1 : goal.returns-then-w-eq1
 unfolding angle_of
-returns-then-w-eq1 c = rw (kept w16 _ c.signed16.type_inv, c.signed16.ensures) (search tests)
+returns-then-w-eq1 c = rw (kept w16 _ c.cast_signed.type_inv, c.cast_signed.ensures) (search tests)
 
 pub overflow_cast-w-2 : goal.overflow_cast-w-2
 unfolding angle_of
 overflow_cast-w-2 c = search rules
 
-pub signed8-requires : goal.signed8-requires
+pub cast_signed-requires-2 : goal.cast_signed-requires-2
 unfolding angle_of
-signed8-requires c = search rules
+cast_signed-requires-2 c = search rules
 
 pub returns : goal.returns
 unfolding angle_of
-returns c = rw (kept w8 _ c.signed8.type_inv, c.signed8.ensures) (search tests)
+returns c = rw (kept w8 _ c.cast_signed-2.type_inv, c.cast_signed-2.ensures) (search tests)

@@ -6,13 +6,10 @@ use Rattle.angle.proofs.ScanAngle.to_scaled_in.Goals as goal
 
 pub returns-in-Rank : goal.returns-in-Rank
 returns-in-Rank c =
-    let k = c in
-    let m = k in
-    let a = m.args in
-    kept w16 _ c.entry.type_inv ∙ c.entry.ensures ∙ ap (entry_of a.table.now) (kept w8 _ k.in-Rank.known_told-1-own.given.0.1)
-    ∙ sym (ap (to_scaled_in a.table.now) m.in-Rank.is)
+    let a = c.args in
+    kept w16 _ c.entry.type_inv ∙ c.entry.ensures ∙ ap (entry_of a.table.now) (kept w8 _ c.in-Rank.known_told-1-own.given.0.1)
+    ∙ sym (ap (to_scaled_in a.table.now) c.in-Rank.is)
 
 pub returns-in-Scaled : goal.returns-in-Scaled
 returns-in-Scaled c =
-    let m = c in
-    kept w16 _ c.in-Scaled.known_told-in-Scaled-1-own.given.0.1 ∙ sym (ap (to_scaled_in m.args.table.now) m.in-Scaled.is)
+    kept w16 _ c.in-Scaled.known_told-in-Scaled-1-own.given.0.1 ∙ sym (ap (to_scaled_in c.args.table.now) c.in-Scaled.is)

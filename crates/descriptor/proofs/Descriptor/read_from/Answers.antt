@@ -1,30 +1,16 @@
-use Prim.Native.Nat.{ℕ}
-use mathlib.Core.Path.{◌≡◌, ap, sym, ◌∙◌}
-use mathlib.Core.List.{List}
-use Rattle.descriptor.specs.declared.Described.{Described}
-use Rattle.descriptor.specs.declared.Descriptor.{Descriptor}
-use Rattle.descriptor.specs.Descriptor.{descriptor_of, no_descriptor, described_of, when_whole, read_of}
-use Rattle.descriptor.specs.Laws.{accepted}
+use Rattle.std.specs.Prelude.{Ok}
+use mathlib.Core.Path.{sym, ap, ◌∙◌}
+use Rattle.std.proofs.lemmas.Result.{err_from_is_err_and}
+use Rattle.descriptor.specs.Laws.{accepted, read_whole, read_refused}
 use Rattle.descriptor.proofs.Descriptor.read_from.Goals as goal
 
--- the answer tells which descriptor stands beside it
-known : (s : List ℕ) {x y : Described} {v : Descriptor} → x ≡ described_of s → x ≡ y → v ≡ when_whole y (descriptor_of s) no_descriptor → record { answer = x; descriptor = v } ≡ read_of s
-unfolding read_of
-known s p q r =
-    let same = r ∙ ap (λ (z : Described). when_whole z (descriptor_of s) no_descriptor) (sym q ∙ p) in
-    λ i. record { answer = p i; descriptor = same i }
+pub returns-in_err-judge : goal.returns-in_err-judge
+returns-in_err-judge c =
+    let p = err_from_is_err_and c.from_residual.result c.from_residual.ensures.1 in
+    rw (p.1, p.2) (sym (read_refused c.args.s.now (sym c.judge.ensures ∙ c.in_err-judge.was)))
 
 pub contents-requires : goal.contents-requires
-contents-requires c =
-    let j = c in
-    (accepted j.args.s.now (sym j.judge-answer.ensures ∙ c.in-Whole.is)).0
+contents-requires c = (accepted c.args.s.now (sym c.judge.ensures ∙ c.in_ok-judge.was)).0
 
-pub returns-in-Whole : goal.returns-in-Whole
-returns-in-Whole c =
-    let j = c in
-    known j.args.s.now j.judge-answer.ensures c.in-Whole.is c.contents.ensures
-
-pub returns-in-Refused : goal.returns-in-Refused
-returns-in-Refused c =
-    let j = c in
-    known j.args.s.now j.judge-answer.ensures c.in-Refused.is c.default.ensures
+pub returns : goal.returns
+returns c = ap Ok c.contents.ensures ∙ sym (read_whole c.args.s.now (sym c.judge.ensures ∙ c.in_ok-judge.was))

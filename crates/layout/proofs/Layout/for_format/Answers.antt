@@ -16,23 +16,19 @@ last c = (placed c.args.format c.places_for-at.ensures).extra
 
 pub overflow_add-result-2 : goal.overflow_add-result-2
 overflow_add-result-2 c =
-    let p = c in
-    omega (arith, last (goal.at.overflow_add-result-2 p).After-places_for-at, fixed_le p.args.format)
+    omega (arith, last (goal.at.overflow_add-result-2 c).After-places_for-at, fixed_le c.args.format)
 
 pub returns : goal.returns
-unfolding places_of layout_of
+unfolding places_of placed_of layout_of
 returns c =
-    let q = c in
-    let w = q in
-    let p = w in
-    let f = p.args.format in
-    let e = p.places_for-at.ensures in
+    let f = c.args.format in
+    let e = c.places_for-at.ensures in
     λ i. record {
       user_data = 17;
-      scan_angle = (ap (λ (n : ℕ). 16 + n) w.when.ensures.0 ∙ sym (further 16 f.is_extended)) i;
+      scan_angle = (ap (λ (n : ℕ). 16 + n) c.when.ensures.0 ∙ sym (further 16 f.is_extended)) i;
       point_source_id = (e i).point_source_id;
-      gps_time = (q.placed.ensures ∙ ap (λ (x : Places). placed_of f.has_gps_time x.gps_time) e) i;
-      rgb = (q.placed-2.ensures ∙ ap (λ (x : Places). placed_of f.has_color x.color) e) i;
-      nir = (q.placed-3.ensures ∙ ap (λ (x : Places). placed_of f.has_nir x.nir) e) i;
-      record_len = (ap (λ (n : ℕ). n + f.extra_bytes) (last (goal.at.returns p).After-places_for-at) ∙ sym (record_end f)) i;
+      gps_time = (c.then_some.ensures ∙ ap (λ (x : Places). placed_of f.has_gps_time x.gps_time) e) i;
+      rgb = (c.then_some-2.ensures ∙ ap (λ (x : Places). placed_of f.has_color x.color) e) i;
+      nir = (c.then_some-3.ensures ∙ ap (λ (x : Places). placed_of f.has_nir x.nir) e) i;
+      record_len = (ap (λ (n : ℕ). n + f.extra_bytes) (last (goal.at.returns c).After-places_for-at) ∙ sym (record_end f)) i;
     }

@@ -6,12 +6,9 @@ use Rattle.outline.proofs.Outline.of.Goals as goal
 pub returns : goal.returns
 unfolding outline_of has_waveform
 returns c =
-    let count = c in
-    let waveform = count in
-    let packets = waveform in
-    let h = packets.args.header in
-    let start = packets.start_of_packets-packets.ensures in
-    let is = waveform.is_waveform-waveform.ensures ∙ ap (is_waveform h.version h.global_encoding) start in
+    let h = c.args.header in
+    let start = c.start_of_packets-packets.ensures in
+    let is = c.is_waveform-waveform.ensures ∙ ap (is_waveform h.version h.global_encoding) start in
     λ i.
     record {
       header_size = h.header_size;
@@ -19,7 +16,7 @@ returns c =
       number_of_variable_length_records = h.number_of_variable_length_records;
       point_data_record_format = h.point_data_record_format;
       point_data_record_length = h.point_data_record_length;
-      number_of_point_records = count.number_of_point_records.ensures i;
+      number_of_point_records = c.number_of_point_records.ensures i;
       waveform = is i;
       start_of_later_records = (c.start_of.ensures ∙ λ j. cond (is j) (start j) (evlr_start h.evlr)) i;
       number_of_later_records = (c.number_of.ensures ∙ λ j. cond (is j) 1 (evlr_count h.evlr)) i;

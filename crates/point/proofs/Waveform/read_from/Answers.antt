@@ -21,10 +21,4 @@ made index offset size l x y z =
 pub returns : goal.returns
 unfolding waveform_at
 returns c =
-    let o = c in
-    let k = o in
-    let z = k in
-    let y = z in
-    let x = y in
-    let l = x in
-    λ i. made (k.u8_at.ensures i) (o.u64_at.ensures i) (c.u32_at.ensures i) (l.f32_at-location.ensures i) (x.f32_at-x_t.ensures i) (y.f32_at-y_t.ensures i) (z.f32_at-z_t.ensures i)
+    λ i. made (c.u8_at.ensures i) (c.u64_at.ensures i) (c.u32_at.ensures i) (c.f32_at-location.ensures i) (c.f32_at-x_t.ensures i) (c.f32_at-y_t.ensures i) (c.f32_at-z_t.ensures i)

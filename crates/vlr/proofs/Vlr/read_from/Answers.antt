@@ -1,33 +1,20 @@
-use Prim.Native.Nat.{ℕ}
-use mathlib.Core.Path.{◌≡◌, ap, sym, ◌∙◌}
-use mathlib.Core.Bool.{Bool}
-use mathlib.Core.List.{List}
+use Rattle.std.specs.Prelude.{Ok}
+use mathlib.Core.Path.{sym, ap, ◌∙◌}
 use native.Mathlib.Omega.{arith}
-use Rattle.vlr.specs.declared.Extent.{Extent}
-use Rattle.vlr.specs.declared.Vlr.{Vlr}
-use Rattle.vlr.specs.Vlr.{vlr_of, no_vlr, extent_of, when_whole, read_of}
-use Rattle.vlr.specs.Laws.{accepted}
+use Rattle.std.proofs.lemmas.Result.{err_from_is_err_and}
+use Rattle.vlr.specs.Laws.{accepted, read_told, read_refused}
 use Rattle.vlr.proofs.Vlr.read_from.Goals as goal
 
--- the answer tells which record stands beside it
-known : (extended : Bool) (s : List ℕ) {x y : Extent} {v : Vlr} → x ≡ extent_of extended s → x ≡ y → v ≡ when_whole y (vlr_of extended s) no_vlr → record { answer = x; vlr = v } ≡ read_of extended s
-unfolding read_of
-known extended s p q r =
-    let same = r ∙ ap (λ (z : Extent). when_whole z (vlr_of extended s) no_vlr) (sym q ∙ p) in
-    λ i. record { answer = p i; vlr = same i }
+pub returns-in_err-measure : goal.returns-in_err-measure
+returns-in_err-measure c =
+    let a = c.args in
+    let p = err_from_is_err_and c.from_residual.result c.from_residual.ensures.1 in
+    rw (p.1, p.2) (sym (read_refused a.extended a.s.now (sym c.measure.ensures ∙ c.in_err-measure.was)))
 
 pub head-requires : goal.head-requires
-head-requires c =
-    let m = c in
-    let a = m.args in
-    omega (arith, accepted a.extended a.s.now (sym m.measure-answer.ensures ∙ c.in-Bytes.is))
+head-requires c = let a = c.args in omega (arith, accepted a.extended a.s.now (sym c.measure.ensures ∙ c.in_ok-measure.was))
 
-pub returns-in-Bytes : goal.returns-in-Bytes
-returns-in-Bytes c =
-    let m = c in
-    known m.args.extended m.args.s.now m.measure-answer.ensures c.in-Bytes.is c.head.ensures
-
-pub returns-in-Refused : goal.returns-in-Refused
-returns-in-Refused c =
-    let m = c in
-    known m.args.extended m.args.s.now m.measure-answer.ensures c.in-Refused.is c.default.ensures
+pub returns : goal.returns
+returns c =
+    let a = c.args in
+    ap Ok c.head.ensures ∙ sym (read_told a.extended a.s.now (sym c.measure.ensures ∙ c.in_ok-measure.was))

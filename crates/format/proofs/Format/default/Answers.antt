@@ -1,6 +1,0 @@
-use Rattle.format.specs.Format.{plain}
-use Rattle.format.proofs.Format.default.Goals as goal
-
-pub returns : goal.returns
-unfolding plain
-returns c = cc
