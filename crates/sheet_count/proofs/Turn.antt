@@ -22,10 +22,9 @@ module _ (e : Bool) (first stride n : ℕ) (s : List ℕ) where
   abbrev extent : ℕ → Extent
   extent i = extent_in (part_at first stride s i)
 
-  -- before turn i, with the next record at `at`
-  pub record Counting (classes returns : List ℕ) (x : Extent) (at i : ℕ) : Type 0 where
+  -- before turn i
+  pub record Counting (classes returns : List ℕ) (x : Extent) (i : ℕ) : Type 0 where
     pub below : i ≤ n
-    pub place : at ≡ first + i * stride
     pub class_counts : classes ≡ counts_of 256 class i
     pub return_counts : returns ≡ counts_of 16 number i
     pub extents : x ≡ extents_of extent i
@@ -34,24 +33,26 @@ module _ (e : Bool) (first stride n : ℕ) (s : List ℕ) where
   pub cut : (at i : ℕ) → at ≡ first + i * stride → take (at + 20 - at) (drop at s) ≡ part_at first stride s i
   cut at i is = let twenty : at + 20 - at ≡ 20 = omega arith in rw (twenty, is)
 
-  pub begun : {classes returns : List ℕ} {x : Extent} → classes ≡ replicate 256 0 → returns ≡ replicate 16 0 → x ≡ extent_in (take (first + 20 - first) (drop first s)) → Counting classes returns x first 0
+  pub begun : {classes returns : List ℕ} {x : Extent} → classes ≡ replicate 256 0 → returns ≡ replicate 16 0 → x ≡ extent_in (take (first + 20 - first) (drop first s)) → Counting classes returns x 0
   unfolding extents_of
   begun no-classes no-returns is =
       let place : first ≡ first + 0 * stride = omega (arith, zero-mul stride) in
       record {
         below = omega arith;
-        place = place;
         class_counts = no-classes ∙ sym (none-counted 256 class);
         return_counts = no-returns ∙ sym (none-counted 16 number);
         extents = is ∙ ap extent_in (cut first 0 place);
       }
 
-  module _ {classes returns : List ℕ} {x : Extent} {at i : ℕ} (inv : Counting classes returns x at i) where
+  module _ {classes returns : List ℕ} {x : Extent} {i : ℕ} (inv : Counting classes returns x i) where
+    abbrev at : ℕ
+    at = first + i * stride
+
     -- what a turn needs: the record stands in s, and there is room for one more
     pub stands : 20 ≤ stride → first + n * stride ≤ length s → i < n → at + stride ≤ length s
     stands wide all h =
         let upto : (i + 1) * stride ≤ n * stride = mul-le-mul_right stride (omega arith) in
-        omega (arith, inv.place, add-mul i 1 stride)
+        omega (arith, add-mul i 1 stride)
 
     pub class-room : (k : ℕ) → k < 256 → (length classes ≡ 256) × (get_or classes k 0 ≤ i)
     class-room k h = rw inv.class_counts (length_counts 256 class i, most-counted 256 class i k h)
@@ -64,16 +65,15 @@ module _ (e : Bool) (first stride n : ℕ) (s : List ℕ) where
 
     module _ {c r : ℕ} {y z : Extent} where
       pub step : i < n → c ≡ class_in e part → r ≡ return_in e part → y ≡ extent_in part → z ≡ both_extents x y
-          → Counting (set classes c (get_or classes c 0 + 1)) (set returns r (get_or returns r 0 + 1)) z (at + stride) (i + 1)
+          → Counting (set classes c (get_or classes c 0 + 1)) (set returns r (get_or returns r 0 + 1)) z (i + 1)
       unfolding extents_of
       step h is-class is-return is-extent is-both =
-          let here = cut at i inv.place in
+          let here = cut at i refl in
           let one_class = is-class ∙ ap (class_in e) here in
           let one_return = is-return ∙ ap (return_in e) here in
           let one-extent = is-extent ∙ ap extent_in here in
           record {
             below = omega arith;
-            place = omega (arith, inv.place, add-mul i 1 stride);
             class_counts = rw (inv.class_counts, one_class) (sym (one-counted 256 class i));
             return_counts = rw (inv.return_counts, one_return) (sym (one-counted 16 number i));
             extents = rw add-one (is-both ∙ (λ j. both_extents (inv.extents j) (one-extent j)));
@@ -84,7 +84,7 @@ module _ (e : Bool) (first stride n : ℕ) (s : List ℕ) where
   some-bounds zero h = absurd (omega arith)
   some-bounds (suc k) h = refl
 
-  pub done : {classes returns : List ℕ} {x : Extent} {at i : ℕ} → Counting classes returns x at i → 0 < n → n ≤ i → record { points = n; classes = classes; returns = returns; bounds = Some x } ≡ tallied_at e first stride n s
+  pub done : {classes returns : List ℕ} {x : Extent} {i : ℕ} → Counting classes returns x i → 0 < n → n ≤ i → record { points = n; classes = classes; returns = returns; bounds = Some x } ≡ tallied_at e first stride n s
   unfolding tallied_at
   done {i = i} inv some h =
       let all : i ≡ n = omega (arith, inv.below) in

@@ -62,15 +62,14 @@ fn tally_at(s: &[u8], first: usize, stride: usize, n: usize, extended: bool) -> 
         };
     }
     let mut extent = extent_in(&s[first..first + 20]);
-    let mut at = first;
     for i in 0..n {
+        let at = first + i * stride;
         let part = &s[at..at + 20];
         let class = class_in(part, extended);
         classes[class] += 1;
         let number = return_in(part, extended);
         returns[number] += 1;
         extent = both_extents(extent, extent_in(part));
-        at += stride;
     }
     Tally {
         points: n as u64,

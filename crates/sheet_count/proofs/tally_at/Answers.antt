@@ -25,11 +25,8 @@ loop-i-init c =
 
 module _ (c : In-loop-i) where
   -- the next record stands in s
-  turn : c.loop-i.at + c.args.stride ≤ length c.args.s.now
+  turn : c.args.first + c.loop-i.i * c.args.stride + c.args.stride ≤ length c.args.s.now
   turn = stands c.args.extended c.args.first c.args.stride c.args.n c.args.s.now c.loop-i.invariant c.requires.0 c.requires.1 c.loop-i-test.true
-
-  further : c.loop-i.at + c.args.stride < 2 ^ 64
-  further = omega (arith, turn)
 
   -- and there is room for one more of its class and of its return number
   class-fits : (k : ℕ) → k ≤ 255 → get_or c.loop-i.classes k 0 ≤ c.loop-i.i
@@ -89,12 +86,3 @@ overflow_add-returns c = omega (arith, return_fits (goal.at.overflow_add-returns
 
 pub bounds-returns-number-in-loop-i : goal.bounds-returns-number-in-loop-i
 bounds-returns-number-in-loop-i c = c.return_in-number.ensures.1
-
-pub overflow_add-at : goal.overflow_add-at
-overflow_add-at c = omega (arith, further (goal.at.overflow_add-at c).In-loop-i)
-
-pub overflow_step-i : goal.overflow_step-i
-overflow_step-i c = omega (arith, c.loop-i-test.true, c.ranges.n)
-
-pub loop-i-smaller : goal.loop-i-smaller
-loop-i-smaller c = omega (arith, c.loop-i-test.true)
