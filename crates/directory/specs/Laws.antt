@@ -1,15 +1,15 @@
--- Laws of what is asked of every entry.
+-- Laws of what is asked of every entry, and of the place of a key.
 use Prim.Native.Nat.{ℕ, zero, suc, ◌+◌, ◌*◌, ◌-◌, ◌≤◌, ◌<◌}
 use Rattle.std.specs.Prelude.{◌≡◌, Bool, cond, ◌&&◌, ◌||◌, List, ◌⊎◌, ltb, leb, eqb, length, Option, Ok, Err}
 use Rattle.std.proofs.Math.Path.{refl}
-use Rattle.std.proofs.Common.{inl, inr, leb-true, leb-false, ltb-true, ne_eqb, lt-ltb, le-ltb}
+use Rattle.std.proofs.Common.{◌∙◌, inl, inr, add-one, leb-true, leb-false, ltb-true, eq-eqb, ne_eqb, lt-ltb, le-ltb}
 use Rattle.std.proofs.Math.Bool.{true, false}
 use native.Mathlib.Omega.{arith}
 use Rattle.refusal.specs.declared.Refusal.TheVariants.{DirectoryShort, KeysNotRising, UnknownLocation, TargetAbsent, TargetBeyond}
 use Rattle.le.specs.Le.{num}
 use Rattle.directory.specs.declared.Question.{Question}
 use Rattle.directory.specs.declared.Question.TheVariants.{Rising, Known, There, Within}
-use Rattle.directory.specs.Directory.{count_of, key_of, entry_of, rising_at, bytes_of, within, passes, every, judged_of}
+use Rattle.directory.specs.Directory.{count_of, key_of, entry_of, rising_at, bytes_of, within, passes, every, judged_of, place_from}
 
 module _ (f : ℕ → Bool) where
   pub every-passes : (n : ℕ) → ((k : ℕ) → k < n → f k ≡ true) → every f n ≡ true
@@ -84,6 +84,28 @@ module _ (key : ℕ → ℕ) (k : ℕ) where
 
   pub rising_says : 0 < k → rising_at key k ≡ true → key (k - 1) < key k
   rising_says h e = ltb-true _ _ (rw (ne_eqb k 0 (λ z. omega arith)) at e)
+
+-- the place of a number among n: a search that has come to k
+module _ (f : ℕ → ℕ) (x n k : ℕ) where
+  here : (m : ℕ) → 0 < m → f k ≡ x → place_from f x k m ≡ k
+  unfolding place_from
+  here zero h e = absurd (omega arith)
+  here (suc m) h e = rw (eq-eqb _ _ e)
+
+  further : (m : ℕ) → 0 < m → (f k ≡ x → ⊥) → place_from f x k m ≡ place_from f x (suc k) (m - 1)
+  unfolding place_from
+  further zero h e = absurd (omega arith)
+  further (suc m) h e = let less : suc m - 1 ≡ m = omega arith in rw (ne_eqb _ _ e, less)
+
+  pub found : k < n → f k ≡ x → place_from f x k (n - k) ≡ k
+  found h e = here (n - k) (omega arith) e
+
+  pub passed : k < n → (f k ≡ x → ⊥) → place_from f x k (n - k) ≡ place_from f x (k + 1) (n - (k + 1))
+  passed h e = let less : n - k - 1 ≡ n - suc k = omega arith in rw add-one (further (n - k) (omega arith) e ∙ rw less)
+
+  pub ended : n ≤ k → place_from f x k (n - k) ≡ k
+  unfolding place_from
+  ended h = let none : n - k ≡ 0 = omega arith in rw none
 
 -- the refusals of a directory in their order, and where there is none
 module _ (d : List ℕ) (doubles text : Option ℕ) where

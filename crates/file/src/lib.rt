@@ -1,7 +1,8 @@
 // The file check: document 01, "When a file is accepted", rules 1 to 8 in their order.
 #![tactic(auto)]
 
-ghost use Rattle.std.specs.Prelude.{◌≡◌, ◌-◌};
+ghost use Rattle.std.specs.Prelude.{Ok, ◌≡◌, ◌-◌};
+ghost use Rattle.header.specs.Judged.{read_of};
 ghost use Rattle.file.specs.Rules.{checked_of, opened_of};
 ghost use Rattle.file.specs.Points.{point_format};
 ghost use Rattle.format.specs.Fields.{record_bytes};
@@ -15,9 +16,7 @@ use rules::NotAccepted;
 pub fn check(file: &[u8], allowance: u64) -> Result<u64, NotAccepted>
     ensures { result ≡ checked_of allowance file.now }
 {
-    let header = open(file, allowance)?;
-    let o = Outline::of(header);
-    Ok(o.number_of_variable_length_records as u64 + o.number_of_later_records as u64)
+    judge(file, allowance, Header::read_from(file)?)
 }
 
 // The header of an accepted file. Refused as `check` refuses.
@@ -25,6 +24,15 @@ pub fn open(file: &[u8], allowance: u64) -> Result<Header, NotAccepted>
     ensures { result ≡ opened_of allowance file.now }
 {
     let header = Header::read_from(file)?;
+    judge(file, allowance, header)?;
+    Ok(header)
+}
+
+// What `check` answers of a file whose header was read.
+fn judge(file: &[u8], allowance: u64, header: Header) -> Result<u64, NotAccepted>
+    requires { read_of file.now ≡ Ok header }
+    ensures { result ≡ checked_of allowance file.now }
+{
     let version = header.version;
     let block = version.header_size()?;
     extents::check(
@@ -33,8 +41,7 @@ pub fn open(file: &[u8], allowance: u64) -> Result<Header, NotAccepted>
         block as usize,
         version.minor,
         Outline::of(header),
-    )?;
-    Ok(header)
+    )
 }
 
 // The format of a file's points, whose extra bytes fill the header's record length. Of a header that the check refuses:

@@ -1,7 +1,9 @@
 -- What the definitions add up to.
 use Rattle.std.specs.Prelude.{Result, Ok}
+use Rattle.refusal.specs.Refused.{ok_same}
 use Rattle.header.specs.Whole.{whole_of}
 use Rattle.header.specs.declared.Whole.{Whole}
+use Rattle.header.specs.declared.Header.{Header}
 use Rattle.refusal.specs.declared.Refusal.{Refusal}
 use Rattle.std.specs.Prelude.{ℕ, ◌≡◌, refl, List, drop}
 use Rattle.std.proofs.Math.Path.{sym, ap}
@@ -9,11 +11,12 @@ use Rattle.std.proofs.Common.{◌∙◌}
 use Rattle.std.proofs.Math.ListN.{take}
 use Rattle.std.proofs.Math.Seq.{take-take}
 use Rattle.fields.specs.Table.{Follow}
-use Rattle.header.specs.Layout.{place, width, fields12, fields13, fields14, size}
-use Rattle.header.specs.Header.{header_of}
-use Rattle.header.specs.Judged.{judged, read_by, read_of, padding_by, padding_of}
+use Rattle.header.specs.Layout.{HeaderSize, place, width, fields12, fields13, fields14, size}
+use Rattle.header.specs.Header.{number, header_of}
+use Rattle.header.specs.Judged.{standard_of, padded_to, judged, read_by, read_of, padding_by, padding_of}
 use Rattle.header.specs.Window.{drop-take}
-use Rattle.header.specs.Laws.{within, agreed}
+use Rattle.header.specs.Laws.{accepted, standard-of, within, agreed}
+use Rattle.header.specs.Answers.{read-judged, header_is, version_read, size_read}
 
 -- "Fields stand in the order of `Header::read_from`": from byte 0 on, without gap or overlap.
 pub follow_12 : Follow width place 0 fields12
@@ -54,3 +57,13 @@ module _ (s t : List ℕ) {n e : ℕ} (p : judged s ≡ Ok (whole_of n e)) (same
       ap (λ (a : Result Whole Refusal). padding_by a t) q
       ∙ sym (drop-take n e t) ∙ ap (drop n) (sym same) ∙ drop-take n e s
       ∙ ap (λ (a : Result Whole Refusal). padding_by a s) (sym p)
+
+-- "the header, and where its block and its padding end": a header that is read says by its version and its header-size field where they end.
+pub measured : (s : List ℕ) {h : Header} → read_of s ≡ Ok h → {n : ℕ} → standard_of h.version ≡ Ok n → judged s ≡ Ok (whole_of n (padded_to n h.header_size))
+measured s {h} p {n} known =
+    let w = read-judged s p in
+    let j = w.2 in
+    let is = header_is s p in
+    let block : w.0 ≡ n = ok_same (sym (ap (λ (x : Header). standard_of x.version) is ∙ ap standard_of (version_read s j) ∙ standard-of s j) ∙ known) in
+    let size : h.header_size ≡ number HeaderSize s = ap (λ (x : Header). x.header_size) is ∙ size_read s j in
+    j ∙ ap Ok ((λ i. whole_of (block i) (((accepted s j).end) i)) ∙ (λ i. whole_of n (padded_to (block i) (sym size i))))

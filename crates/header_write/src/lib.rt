@@ -40,7 +40,7 @@ fn write_sized(h: Header, n: u16, padding: &[u8], dst: &mut [u8]) -> Result<usiz
         return Err(Refusal::NoRoom(wanted as u64));
     }
     write_block(h, dst);
-    dst[size..wanted].copy_from_slice(padding);
+    let _ = lent::put(&mut dst[size..], padding);
     Ok(wanted)
 }
 

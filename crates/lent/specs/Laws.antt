@@ -21,6 +21,12 @@ front bs d h = simp (le-leb _ _ h)
 pub no_front : (bs d : List ℕ) → length d < length bs → front_of bs d ≡ (Err (NoRoom (length bs)), d)
 no_front bs d h = simp (lt-leb _ _ h)
 
+-- what is left of a slice that is as long as what is put into it
+pub placed : (d bs : List ℕ) {e : List ℕ} {r : Result ℕ Refusal} → length d ≡ length bs → (r, e) ≡ front_of bs d → e ≡ bs
+placed d bs h p =
+    let none : drop (length bs) d ≡ [] = drop_of_length-le d (omega arith) in
+    ap (λ (w : Result ℕ Refusal × List ℕ). w.1) (p ∙ front bs d (omega arith)) ∙ rw (none, append-nil)
+
 -- a refusal is no answer
 pub no_answer : {x : Refusal} {n : ℕ} {d d' : List ℕ} → ◌≡◌ {A = Result ℕ Refusal × List ℕ} (Err x, d) (Ok n, d') → ⊥
 no_answer {x} {n} p =

@@ -171,7 +171,7 @@ fn write_around(file: &[u8], new: Header, o: Outline, to: usize, dst: &mut [u8])
     let end = end_of(o);
     write_front(file, new, o, dst);
     let rest = &file[end..];
-    dst[to..to + rest.len()].copy_from_slice(rest);
+    let _ = lent::put(&mut dst[to..to + rest.len()], rest);
 }
 
 // The header with its padding, and then all that lies between it and the points, the VLRs among them.
@@ -182,7 +182,7 @@ fn write_front(file: &[u8], new: Header, o: Outline, dst: &mut [u8])
     let _ = header_write::write_to(new, header::padding(file), dst);
     let vlrs = &file[o.header_size as usize..o.offset_to_point_data as usize];
     let at = new.header_size as usize;
-    dst[at..at + vlrs.len()].copy_from_slice(vlrs);
+    let _ = lent::put(&mut dst[at..at + vlrs.len()], vlrs);
 }
 
 // Where the points end.

@@ -1,5 +1,5 @@
 -- What is filled is what the table's promise says.
-use Rattle.std.specs.Prelude.{ℕ, ◌+◌, ◌≤◌, ◌<◌, ◌≡◌, Result, Ok, Err, Bool, true, false, cond, ltb, leb, length, drop, set}
+use Rattle.std.specs.Prelude.{ℕ, ◌+◌, ◌-◌, ◌≤◌, ◌<◌, ◌≡◌, Result, Ok, Err, Bool, true, false, cond, ltb, leb, length, take, drop, set}
 use Rattle.std.proofs.Math.Path.{refl}
 use Rattle.std.proofs.Common.{ap, sym, ◌∙◌, zero-add, add-one, arith, le-leb, ltb-true, ltb-false}
 use mathlib.Core.List.{List, ◌∷◌, ◌++◌}
@@ -20,6 +20,12 @@ use Rattle.parts.specs.Table.{tabled_by, tabled_of, roomy_by, roomy_of}
 -- one entry more is set: what is left is set after it
 pub turn : (l : List Part) (at : ℕ) (left rest : List Part) (p : Part) → left ≡ p ∷ rest → sets l at left ≡ sets (set l at p) (at + 1) rest
 turn l at left rest p e = rw (e, add-one)
+
+-- all that were wanted are set
+pub ended : (l : List Part) (at n : ℕ) (left : List Part) → at ≤ n → n ≤ at → sets l at (take (n - at) left) ≡ l
+ended l at n left below above =
+    let none : n - at ≡ 0 = omega arith in
+    rw none
 
 -- the front of a table set to a list that fits
 front : (t ps : List Part) → length ps ≤ length t → sets t 0 ps ≡ ps ++ drop (length ps) t

@@ -95,5 +95,5 @@ fn put_at(dst: &mut [u8], at: usize, bytes: &[u8])
     requires { at + length bytes.now ≤ length dst.old }
     ensures { dst.new ≡ sets dst.old at bytes.now }
 {
-    dst[at..at + bytes.len()].copy_from_slice(bytes);
+    let _ = lent::put(&mut dst[at..at + bytes.len()], bytes);
 }

@@ -71,7 +71,7 @@ fn copy_gap(src: &[u8], dst: &mut [u8])
     requires { length src.now ≤ length dst.old }
     ensures { dst.new ≡ src.now ++ drop (length src.now) dst.old }
 {
-    dst[..src.len()].copy_from_slice(src);
+    let _ = lent::put(dst, src);
 }
 
 // The header and its padding, written from what their readers answer. A whole header is not refused, so the else is not

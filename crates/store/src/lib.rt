@@ -14,8 +14,13 @@ pub fn set_bytes(d: &mut [u8], at: usize, v: &[u8])
     if d.len() <= at {
         return;
     }
-    let n = v.len().min(d.len() - at);
-    d[at..at + n].copy_from_slice(&v[..n]);
+    // Stays: two ways in, so that of bytes whose number the compiler knows it makes plain stores; by the smaller of two lengths it does not.
+    let room = d.len() - at;
+    if v.len() <= room {
+        let _ = lent::put(&mut d[at..], v);
+        return;
+    }
+    let _ = lent::put(&mut d[at..], &v[..room]);
 }
 
 // Stores the bytes of a number, the lowest first.

@@ -30,5 +30,8 @@ fn text_at(s: &[u8], at: u64, width: usize) -> &[u8]
 fn rest_in(text: &[u8]) -> bool
     ensures { result ≡ rest_of text.now }
 {
-    text.iter().skip_while(|b| **b != 0).any(|b| *b != 0)
+    match text.iter().position(|b| *b == 0) {
+        Some(end) => text[end..].iter().any(|b| *b != 0),
+        None => false,
+    }
 }

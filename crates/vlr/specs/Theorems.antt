@@ -1,7 +1,7 @@
 -- What the definitions of Vlr add up to; Places has what the table of Layout does.
 use Rattle.std.specs.Prelude.{Ok, Err}
 use Rattle.refusal.specs.declared.Refusal.{Refusal}
-use Rattle.std.specs.Prelude.{ℕ, ◌≡◌, refl, Bool, ◌↔◌, List, ◌++◌, length, take, drop}
+use Rattle.std.specs.Prelude.{ℕ, ◌+◌, ◌≡◌, refl, Bool, ◌↔◌, List, ◌++◌, length, take, drop}
 use Rattle.std.proofs.Common.{ap, sym, ◌∙◌, arith, take-append-drop}
 use Rattle.le.specs.Le.{Bytes as IsBytes}
 use Rattle.lent.specs.Front.{front_of}
@@ -9,7 +9,7 @@ use Rattle.vlr.specs.declared.Vlr.{Vlr}
 use Rattle.fields.specs.Table.{part}
 use Rattle.vlr.specs.Layout.{head_size}
 use Rattle.vlr.specs.Vlr.{data_length, is_evlr, length_of, vlr_of, record_size, extent_of, read_of, data_of, head_bytes, written_of, Typed}
-use Rattle.vlr.specs.Laws.{accepted, read_told, read_refused, read_accepted, refused_so, read_whole, length-data, stated-length, written}
+use Rattle.vlr.specs.Laws.{record_size_lem, accepted, read_told, read_refused, read_accepted, refused_so, read_whole, length-data, stated-length, written}
 use Rattle.vlr.specs.Heads.{kind_read, record_back, typed, again}
 
 -- A record is read exactly where its bytes are told, and refused with what they are.
@@ -19,6 +19,13 @@ module _ (extended : Bool) (s : List ℕ) where
 
   pub refused_exactly : (r : Refusal) → (read_of extended s ≡ Err r) ↔ (extent_of extended s ≡ Err r)
   refused_exactly r = (refused_so extended s, read_refused extended s)
+
+  -- "the record and its bytes in all": a record that is read says by its length how many bytes it takes, head and data.
+  pub measured : {v : Vlr} → read_of extended s ≡ Ok v → extent_of extended s ≡ Ok (head_size extended + data_length v.record_length_after_header)
+  unfolding vlr_of
+  measured {v} e =
+      let r = read_accepted extended s e in
+      r.0 ∙ ap Ok (record_size_lem extended s ∙ ap (λ (x : Vlr). head_size extended + data_length x.record_length_after_header) (sym r.1))
 
 -- "Written back, it has the same bytes" (the mission, 2): what is read of a record and of its data, written, is the bytes that were read.
 pub written_back : (extended : Bool) (s d : List ℕ) {n : ℕ} {v : Vlr} → IsBytes s → extent_of extended s ≡ Ok n → read_of extended s ≡ Ok v → written_of v (data_of extended s) d ≡ front_of (take n s) d

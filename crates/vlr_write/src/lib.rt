@@ -26,7 +26,7 @@ pub fn write_to(vlr: Vlr, data: &[u8], dst: &mut [u8]) -> Result<usize, Refusal>
         return Err(Refusal::NoRoom(size as u64));
     }
     write_head(vlr, dst);
-    dst[head..size].copy_from_slice(data);
+    let _ = lent::put(&mut dst[head..], data);
     Ok(size)
 }
 

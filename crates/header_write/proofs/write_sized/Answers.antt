@@ -1,11 +1,11 @@
 use Rattle.std.specs.Prelude.{Ok}
 use Prim.Native.Nat.{ℕ, ◌+◌}
 use mathlib.Core.List.{List}
-use mathlib.Core.Path.{◌≡◌, refl, ap, sym, ◌∙◌}
+use mathlib.Core.Path.{◌≡◌, ap, sym, ◌∙◌}
 use native.Mathlib.Omega.{arith}
 use borrow.Author.Tests.{le-leb}
 use lib.ListN.{length}
-use Rattle.lent.specs.Laws.{then_copied}
+use Rattle.lent.specs.Laws.{then_tail}
 use Rattle.refusal.proofs.Tests.{tests}
 use Rattle.header.specs.Laws.{known}
 use Rattle.header_write.specs.Wrote.{wrote_by}
@@ -25,4 +25,4 @@ returns c =
     let size : length (block a.h) ≡ a.n = length-block a.h wrote.ensures ∙ sym (known a.h.version a.n (sym c.requires)).2 in
     rw (le-leb _ _ c.if-dst-wanted.false)
     (ap (λ (l : List ℕ). (Ok (a.n + length a.padding.now), l))
-    (then_copied a.dst.now (block a.h) a.padding.now wrote.new.dst _ a.n _ size refl (omega arith) (stored-block a.h wrote.ensures) c.copy_from_slice.ensures.after))
+    (then_tail a.dst.now (block a.h) a.padding.now wrote.new.dst c.put.new.dst a.n c.put.result size (omega arith) (stored-block a.h wrote.ensures) c.put.ensures))

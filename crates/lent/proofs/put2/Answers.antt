@@ -1,8 +1,14 @@
+use native.Mathlib.Omega.{arith}
 use Rattle.lent.proofs.Two.{short, both}
 use Rattle.lent.proofs.put2.Goals as goal
 
 pub returns-then-dst-wanted : goal.returns-then-dst-wanted
-returns-then-dst-wanted c = short c.args.head.now c.args.tail.now c.args.dst.now c.if-dst-wanted.true
+returns-then-dst-wanted c =
+    let a = c.args in
+    short a.head.now a.tail.now a.dst.now c.if-dst-wanted.true
 
 pub returns : goal.returns
-returns c = both c.args.head.now c.args.tail.now c.args.dst.now _ _ c.if-dst-wanted.false c.copy_from_slice.ensures.after c.copy_from_slice-2.ensures.after
+returns c =
+    let a = c.args in
+    let w = c.put-2 in
+    both a.dst.now a.head.now a.tail.now c.put.new.dst w.new.dst c.put.result w.result (omega arith) c.put.ensures w.ensures

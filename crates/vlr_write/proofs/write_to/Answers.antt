@@ -1,12 +1,12 @@
 use Rattle.std.specs.Prelude.{Ok, Err}
 use Prim.Native.Nat.{ℕ, ◌+◌, ◌≤◌}
-use mathlib.Core.Path.{◌≡◌, refl, ap, sym, ◌∙◌}
+use mathlib.Core.Path.{◌≡◌, ap, sym, ◌∙◌}
 use mathlib.Core.List.{List, ◌++◌}
 use borrow.Author.Rules.{rules}
 use native.Mathlib.Omega.{arith}
 use lib.ListN.{length, drop, length-append}
 use Rattle.refusal.specs.declared.Refusal.TheVariants.{NoRoom}
-use Rattle.lent.specs.Laws.{front, no_front, then_copied}
+use Rattle.lent.specs.Laws.{front, no_front, then_tail}
 use Rattle.lent.specs.Front.{front_of}
 use Rattle.vlr.specs.Layout.{head_size}
 use Rattle.vlr.specs.Places.{head-at-most}
@@ -49,7 +49,7 @@ pub returns : goal.returns
 returns c =
     let a = (begun (goal.at.returns c).After-head_size-head).args in
     let room : c.head_size-head.result + length a.«data».now ≤ length a.dst.now = omega arith in
-    let left = then_copied a.dst.now (head_bytes a.vlr) a.«data».now c.write_head.new.dst _ c.head_size-head.result _ (sym (head (goal.at.returns c).After-head_size-head)) refl room (stored-head a.vlr c.write_head.ensures) c.copy_from_slice.ensures.after in
+    let left = then_tail a.dst.now (head_bytes a.vlr) a.«data».now c.write_head.new.dst c.put.new.dst c.head_size-head.result c.put.result (sym (head (goal.at.returns c).After-head_size-head)) room (stored-head a.vlr c.write_head.ensures) c.put.ensures in
     (λ i. (Ok (size (goal.at.returns c).After-head_size-head i), (left ∙ ap (λ (k : ℕ). written (goal.at.returns c).After-head_size-head ++ drop k a.dst.now) (size (goal.at.returns c).After-head_size-head)) i))
     ∙ sym (same (goal.at.returns c).After-head_size-head ∙ front (written (goal.at.returns c).After-head_size-head) a.dst.now (omega (arith, size (goal.at.returns c).After-head_size-head)))
 
