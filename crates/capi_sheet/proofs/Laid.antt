@@ -1,8 +1,7 @@
 -- Numbers stored one run after the other.
-use Rattle.std.proofs.Common.{ℕ, ◌+◌, ◌≤◌, ◌≡◌, List, [], ◌++◌, length, drop, sym, arith, length-append, length-drop, append_assoc, append-nil, ◌∙◌}
+use Rattle.std.proofs.Common.{ℕ, ◌+◌, ◌≡◌, List, [], ◌++◌, length, drop, sym, arith, length-append, length-drop, append_assoc, append-nil}
 use Rattle.std.proofs.lemmas.List.{take_at, drop_at}
 use lib.ListN.{drop_of_length-le}
-use lib.Seq.{paste, take-length}
 use borrow.Rule.Slice.PartMut.{put_mid}
 
 -- behind h, of a numbers, are stored c, of k, and then r, of m, to the end
@@ -13,10 +12,3 @@ laid h c r rest a k b m first second end all =
     let size : length (h ++ c) ≡ b = omega (arith, length-append h c) in
     let none : drop m tail ≡ [] = drop_of_length-le tail (omega (arith, length-drop k rest)) in
     rw (inner, take_at (h ++ c) tail b size, drop_at (h ++ c) tail b size, none, append-nil) (append_assoc h c r)
-
--- p stored over the whole of d
-pub over : (d p : List ℕ) → length d ≡ length p → paste d 0 p (length p) ≡ p
-over d p h =
-    let short : length d ≤ 0 + length p = omega arith in
-    let past : drop (0 + length p) d ≡ [] = drop_of_length-le d short in
-    (λ j. take-length p j ++ past j) ∙ append-nil p

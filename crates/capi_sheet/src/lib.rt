@@ -75,7 +75,7 @@ fn classes_from(n: &[u64]) -> [u64; 256]
     ensures { result ≡ part_from 9 256 n.now }
 {
     let mut classes = [0u64; 256];
-    put(&mut classes, &n[9..265]);
+    classes.copy_from_slice(&n[9..265]);
     classes
 }
 
@@ -84,7 +84,7 @@ fn returns_from(n: &[u64]) -> [u64; 16]
     ensures { result ≡ part_from 265 16 n.now }
 {
     let mut returns = [0u64; 16];
-    put(&mut returns, &n[265..281]);
+    returns.copy_from_slice(&n[265..281]);
     returns
 }
 
@@ -93,23 +93,10 @@ fn sheet_numbers(sheet: Sheet) -> [u64; 281]
     ensures { result ≡ sheet_numbers sheet }
 {
     let mut numbers = [0; 281];
-    put(
-        &mut numbers[..9],
-        &head_numbers(sheet.files, sheet.points, sheet.bounds),
-    );
-    put(&mut numbers[9..265], &sheet.classes);
-    put(&mut numbers[265..], &sheet.returns);
+    numbers[..9].copy_from_slice(&head_numbers(sheet.files, sheet.points, sheet.bounds));
+    numbers[9..265].copy_from_slice(&sheet.classes);
+    numbers[265..].copy_from_slice(&sheet.returns);
     numbers
-}
-
-// Stores the numbers of src over all of dst. Stays: std's `copy_from_slice` has the library ask its user for a `memmove`.
-fn put(dst: &mut [u64], src: &[u64])
-    requires { length dst.old ≡ length src.now }
-    ensures { dst.new ≡ src.now }
-{
-    for i in 0..src.len() {
-        dst[i] = src[i];
-    }
 }
 
 // Those before its counts.

@@ -1,4 +1,4 @@
 use Rattle.capi_sheet.proofs.returns_from.Goals as goal
 
 pub returns : goal.returns
-returns c = c.put.ensures
+returns c = c.copy_from_slice.ensures.after

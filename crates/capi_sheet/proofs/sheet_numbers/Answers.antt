@@ -10,8 +10,8 @@ returns c =
     let s = c.args.sheet in
     let classes : length s.classes ≡ 256 = search rules in
     let nine : length c.head_numbers.result ≡ 9 = search rules in
-    let head = c.put.ensures in
-    let next = c.put-2.ensures in
-    let last = c.put-3.ensures in
+    let head = c.copy_from_slice.ensures.after in
+    let next = c.copy_from_slice-2.ensures.after in
+    let last = c.copy_from_slice-3.ensures.after in
     laid _ _ _ (drop 9 (replicate 281 0)) 9 256 265 16 (ap length head ∙ nine) (ap length next ∙ classes) refl refl
     ∙ (λ i. (head ∙ c.head_numbers.ensures) i ++ (next i ++ last i))
